@@ -1,0 +1,58 @@
+// Bits of a slice of bytes, the high bit of each byte first (A/52 clause 5.1, TS 102 366 clause 4.3).
+ghost use mathlib.Core.Path.{_≡_};
+ghost use Prim.Native.Nat.{_*_, _/_, _<_, _≤_};
+ghost use Rattle.bits.specs.Bits.{getOf};
+
+// A place in a syncframe, in bits from its first one. A frame has at most 32,768.
+pub struct BitPlace(pub u16);
+
+// A number of whole bytes. A frame has at most 4,096.
+pub struct ByteCount(pub u16);
+
+impl ByteCount {
+    // The place after that many bytes.
+    pub fn bits(self) -> BitPlace
+        requires { ⌜ self .0 ≤ 8191 ⌝ }
+        ensures { λ r. ⌜ r .0 ≡ 8 * self .0 ⌝ }
+    {
+        BitPlace(8 * self.0)
+    }
+}
+
+impl BitPlace {
+    // How many whole bytes stand before the place.
+    pub fn bytes(self) -> ByteCount
+        ensures { λ r. ⌜ r .0 ≡ self .0 / 8 ⌝ }
+    {
+        ByteCount(self.0 / 8)
+    }
+}
+
+fn wide(x: u8) -> u64
+    ensures { λ r. ⌜ (r ≡ x) × (r < 256) ⌝ }
+{
+    x as u64
+}
+
+// The `width` bits from `at` on, the first of them the highest. 0 where the width is 0 or above 32,
+// and where the bits pass the end of the slice.
+pub fn get(src: &[u8], at: BitPlace, width: u16) -> u32
+    ensures { λ r. ⌜ r ≡ getOf (now (src .entry)) (at .0) width ⌝ }
+{
+    if 32 < width {
+        return 0;
+    }
+    let from = at.0 as usize;
+    let to = from + width as usize;
+    let last = (to + 7) / 8;
+    if src.len() < last {
+        return 0;
+    }
+    let mut v: u64 = 0;
+    let mut i = from / 8;
+    while i < last {
+        v = v * 256 + wide(src[i]);
+        i += 1;
+    }
+    ((v >> (last * 8 - to)) % (1 << (width as u64))) as u32
+}

@@ -1,0 +1,179 @@
+-- Laws of a whole frame: its records tile and tell their bits; two buffers that agree below bit d split at d. Assumes nothing.
+use mathlib.Core.Path.{_≡_, refl, ap, sym, _∙_, subst}
+use mathlib.Core.Bool.{Bool, true, false, cond}
+use mathlib.Core.List.{List, [], _∷_, _++_, map}
+use mathlib.Core.Logic.{by-cases, _⊎_, inl, inr}
+use mathlib.Core.Option.{some}
+use Prim.Native.Nat.{ℕ, zero, suc, _+_, _*_, _-_, _≤_, _<_}
+use native.Mathlib.Omega.{arith}
+use native.Mathlib.Decide.{decLt}
+use lib.Dec.{leb}
+use lib.ListN.{length, getElem?}
+use borrow.Author.Tests.{le-leb}
+use Rattle.bits.specs.Bits.{bitsAt, SameBits}
+use Rattle.reading.specs.Tree.{Tree}
+use Rattle.reading.specs.Run.{Field, Entry, end, Result, accepted, refused, Outcome, out, andThen, after, run}
+use Rattle.reading.specs.Records.{All, Tiles, Tiled, Whole, Told}
+use Rattle.reading.specs.Frame.{Format, Announces, auxdataeAt, tail, finish, framed, sized, parse}
+use Rattle.reading.specs.CommonReading.{Holds, list, Excepted, Stand}
+use Rattle.reading.proofs.Laws.{tiled, told, tiled-after, told-after}
+use Rattle.reading.proofs.Lockstep.{Past, Side, Split, Common, same, split, side-prefix, side-map, beyond, reading, agree-bits, side-after}
+use Rattle.reading.proofs.Tails.{LateOrAux, tail-late, finish-ends}
+
+-- what holds of every record of a list holds of the record at a place
+all-at : (P : Field → Type 0) (r : List Entry) → All (λ e. P (e .field)) r → (i : ℕ) (f : Field) → getElem? (map (λ (e : Entry). e .field) r) i ≡ some f → P f
+all-at P [] h i f q = absurd (let z : _≡_ {A = ℕ} 0 1 = cc in omega arith)
+all-at P (a ∷ r) h zero f q = let w : a .field ≡ f = cc in subst P w (h .0)
+all-at P (a ∷ r) h (suc i) f q = all-at P r (h .1) i f q
+
+-- of two lists that begin alike, a record of the one stands in the other or is among the rest
+stays : (P : Field → Type 0) (c r s : List Entry) → All (λ e. P (e .field)) r
+    → (i : ℕ) (f : Field) → getElem? (map (λ (e : Entry). e .field) (c ++ r)) i ≡ some f
+    → (getElem? (map (λ (e : Entry). e .field) (c ++ s)) i ≡ some f) ⊎ P f
+stays P [] r s h i f q = inr (all-at P r h i f q)
+stays P (a ∷ c) r s h zero f q = inl q
+stays P (a ∷ c) r s h (suc i) f q = stays P c r s h i f q
+
+after-same : {A B : Type 0} (o : Outcome A) (f g : A → ℕ → Outcome B) → ((a : A) → o .result ≡ accepted a → f a (o .place) ≡ g a (o .place)) → after o f ≡ after o g
+unfolding after
+after-same {A} o f g h = go (o .result) refl
+  where
+    go : (r : Result A) → o .result ≡ r → andThen r (o .place) (o .records) f ≡ andThen r (o .place) (o .records) g
+    go (accepted a) q = rw (h a q) refl
+    go (refused n) q = refl
+
+module _ {H A : Type 0} (F : Format H A) where
+  -- the reading of a buffer that holds its frame
+  abbrev pub whole : List ℕ → Outcome A
+  whole b = after (run (F .header) b 0 48) (framed F b)
+
+  pub parse-whole : Announces F → (b : List ℕ) → Holds F b → parse F b ≡ whole b
+  unfolding parse sized
+  parse-whole n b h =
+      rw (le-leb 6 (length b) (h .six))
+      (after-same (run (F .header) b 0 48) _ _
+      (λ a q. let k : F .bytes a ≤ length b = omega (arith, n b a q, h .whole) in rw (le-leb (F .bytes a) (length b) k) refl))
+
+  finish-tiled : (b : List ℕ) (l : ℕ) (a : A) (p : ℕ) → Tiled p (finish (F .names) b l a p)
+  unfolding finish
+  finish-tiled b l a p = tiled (tail (F .names) (bitsAt b (auxdataeAt l) 1) l a) b p l
+
+  framed-tiled : (b : List ℕ) (h : H) (p : ℕ) → Tiled p (framed F b h p)
+  unfolding framed
+  framed-tiled b h p = tiled-after (run (F .body h) b p (8 * F .bytes h)) _ (finish-tiled b (8 * F .bytes h)) (tiled (F .body h) b p (8 * F .bytes h))
+
+  pub whole-tiled : (b : List ℕ) → Tiled 0 (whole b)
+  whole-tiled b = tiled-after (run (F .header) b 0 48) _ (framed-tiled b) (tiled (F .header) b 0 48)
+
+  framed-told : (b : List ℕ) (h : H) (p : ℕ) → All (Told b) (framed F b h p .records)
+  unfolding framed finish
+  framed-told b h p =
+      told-after b (run (F .body h) b p (8 * F .bytes h)) _
+      (λ a p. told (tail (F .names) (bitsAt b (auxdataeAt (8 * F .bytes h)) 1) (8 * F .bytes h) a) b p (8 * F .bytes h))
+      (told (F .body h) b p (8 * F .bytes h))
+
+  pub whole-told : (b : List ℕ) → All (Told b) (whole b .records)
+  whole-told b = told-after b (run (F .header) b 0 48) _ (framed-told b) (told (F .header) b 0 48)
+
+  -- an accepted frame ends where its buffer announces
+  pub whole-ends : Announces F → (b : List ℕ) (c : A) → whole b .result ≡ accepted c → whole b .place ≡ 8 * F .announced b
+  unfolding framed after
+  whole-ends n b c = go (O .result) refl
+    where
+      O : Outcome H
+      O = run (F .header) b 0 48
+
+      inner : (l : ℕ) (o : Outcome A) (r : Result A) → andThen r (o .place) (o .records) (finish (F .names) b l) .result ≡ accepted c
+          → andThen r (o .place) (o .records) (finish (F .names) b l) .place ≡ l
+      inner l o (accepted a) e = finish-ends (F .names) b l a c (o .place) e .0
+      inner l o (refused n) e = absurd (let z : _≡_ {A = ℕ} 0 1 = cc in omega arith)
+
+      go : (r : Result H) → O .result ≡ r → andThen r (O .place) (O .records) (framed F b) .result ≡ accepted c
+          → andThen r (O .place) (O .records) (framed F b) .place ≡ 8 * F .announced b
+      go (accepted h) q e =
+          let o = run (F .body h) b (O .place) (8 * F .bytes h) in
+          inner (8 * F .bytes h) o (o .result) e ∙ ap (λ k. 8 * k) (n b h q)
+      go (refused k) q e = absurd (let z : _≡_ {A = ℕ} 0 1 = cc in omega arith)
+
+  -- what may differ: records that end after d; auxbits and auxdatal, where d is at or before auxdatae of a frame that ends at l
+  abbrev pub Late : ℕ → ℕ → Entry → Type 0
+  Late d l e = (d < end (e .field)) ⊎ (((e .field .name ≡ F .names .auxbits) ⊎ (e .field .name ≡ F .names .auxdatal)) × (d + 18 ≤ l))
+
+  -- x is accepted, and its frame ends at l, after d
+  module _ (x y : List ℕ) (d : ℕ) (agree : SameBits x y 0 d) (c : A) (l : ℕ) (inside : d < l) where
+    late : (e : Entry) → Past d e → Late d l e
+    late e h = inl h
+
+    -- a split goes through what follows
+    split-after : {B : Type 0} (o u : Outcome B) (f g : B → ℕ → Outcome A) → Common d o u
+        → ((a : B) (p : ℕ) → p ≤ d → f a p .result ≡ accepted c → f a p .place ≡ l → Split (Late d l) d (f a p) (g a p))
+        → ((a : B) (p : ℕ) → d < p → Side (Past d) d [] (f a p)) → ((a : B) (p : ℕ) → d < p → Side (Past d) d [] (g a p))
+        → after o f .result ≡ accepted c → after o f .place ≡ l → Split (Late d l) d (after o f) (after u g)
+    unfolding after
+    split-after {B} o u f g (same q h) k i j = rw (← q) (go (o .result))
+      where
+        go : (r : Result B) → andThen r (o .place) (o .records) f .result ≡ accepted c → andThen r (o .place) (o .records) f .place ≡ l
+            → Split (Late d l) d (andThen r (o .place) (o .records) f) (andThen r (o .place) (o .records) g)
+        go (accepted a) e n =
+            let s = k a (o .place) h e n in
+            (o .records ++ s .0, side-prefix (o .records) (s .1), side-prefix (o .records) (s .2))
+        go (refused n) e m = absurd (let z : _≡_ {A = ℕ} 0 1 = cc in omega arith)
+    split-after o u f g (split s) k i j =
+        λ e n. (s .0, side-map late (side-after o f i (s .1)), side-map late (side-after u g j (s .2)))
+
+    finish-split : (m : ℕ) (a : A) (p : ℕ) → p ≤ d → finish (F .names) x m a p .result ≡ accepted c → finish (F .names) x m a p .place ≡ l
+        → Split (Late d l) d (finish (F .names) x m a p) (finish (F .names) y m a p)
+    unfolding finish
+    finish-split m a p h e n = by-cases (decLt (auxdataeAt m) d) near far
+      where
+        ends : (finish (F .names) x m a p .place ≡ m) × (p + 18 ≤ m)
+        ends = finish-ends (F .names) x m a c p e
+
+        near : auxdataeAt m < d → Split (Late d l) d (finish (F .names) x m a p) (finish (F .names) y m a p)
+        near i = rw (agree-bits x y d agree (auxdataeAt m) 1 (omega arith)) (go (reading x y d agree (tail (F .names) (bitsAt x (auxdataeAt m) 1) m a) p m h))
+          where
+            go : {u : Outcome A} → Common d (finish (F .names) x m a p) u → Split (Late d l) d (finish (F .names) x m a p) u
+            go (same q j) = absurd (let z : ⊥ = omega arith in z)
+            go (split s) = (s .0, side-map late (s .1), side-map late (s .2))
+
+        far : ¬ (auxdataeAt m < d) → Split (Late d l) d (finish (F .names) x m a p) (finish (F .names) y m a p)
+        far i = ([], side x, side y)
+          where
+            weaker : (e : Entry) → LateOrAux (F .names) d e → Late d l e
+            weaker e (inl r) = inl r
+            weaker e (inr r) = inr (r, omega (arith, ends))
+
+            side : (b : List ℕ) → Side (Late d l) d [] (run (tail (F .names) (bitsAt b (auxdataeAt m) 1) m a) b p m)
+            side b = side-map weaker (tail-late (F .names) b (bitsAt b (auxdataeAt m) 1) a p m d (ends .1) (omega (arith, ends)))
+
+    finish-side : (b : List ℕ) (m : ℕ) (a : A) (p : ℕ) → d < p → Side (Past d) d [] (finish (F .names) b m a p)
+    unfolding finish
+    finish-side b m a p h = beyond (tail (F .names) (bitsAt b (auxdataeAt m) 1) m a) b d p m h
+
+    framed-side : (b : List ℕ) (h : H) (p : ℕ) → d < p → Side (Past d) d [] (framed F b h p)
+    unfolding framed
+    framed-side b h p k =
+        side-after (run (F .body h) b p (8 * F .bytes h)) (finish (F .names) b (8 * F .bytes h)) (finish-side b (8 * F .bytes h)) (beyond (F .body h) b d p (8 * F .bytes h) k)
+
+    pub whole-split : whole x .result ≡ accepted c → whole x .place ≡ l → Split (Late d l) d (whole x) (whole y)
+    unfolding framed
+    whole-split =
+        split-after (run (F .header) x 0 48) (run (F .header) y 0 48) (framed F x) (framed F y) (reading x y d agree (F .header) 0 48 (omega arith))
+        (λ h p k. split-after (run (F .body h) x p (8 * F .bytes h)) (run (F .body h) y p (8 * F .bytes h)) _ _
+        (reading x y d agree (F .body h) p (8 * F .bytes h) k)
+        (finish-split (8 * F .bytes h)) (finish-side x (8 * F .bytes h)) (finish-side y (8 * F .bytes h)))
+        (framed-side x) (framed-side y)
+
+  -- the two sides of a split: a record of the one that ends at or before d stands in the other, or is excepted
+  pub stand : (x : List ℕ) (d : ℕ) (c : List Entry) (o u : Outcome A)
+      → Side (Late d (8 * F .announced x)) d c o → Side (Late d (8 * F .announced x)) d c u → Stand F x d (list o) (list u)
+  stand x d c o u r s i f q h =
+      rw (s .is) (go (stays P c (r .rest) (s .rest) (r .late) i f (rw (r .is) at q)))
+    where
+      P : Field → Type 0
+      P f = (d < end f) ⊎ (((f .name ≡ F .names .auxbits) ⊎ (f .name ≡ F .names .auxdatal)) × (d + 18 ≤ 8 * F .announced x))
+
+      go : {X : Type 0} → X ⊎ P f → X ⊎ Excepted F x d f
+      go (inl a) = inl a
+      go (inr (inl a)) = absurd (let z : ⊥ = omega arith in z)
+      go (inr (inr a)) = inr (record { aux = a .0; early = a .1 })

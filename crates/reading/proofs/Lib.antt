@@ -1,0 +1,9 @@
+pub mod Trees
+pub mod Runs
+pub mod Laws
+pub mod Lockstep
+pub mod Rooms
+pub mod Tails
+pub mod Frames
+pub mod Twins
+pub mod Theorem
