@@ -1,0 +1,109 @@
+-- Each way that a recording operation returns, as a law about its definition. Assumes nothing.
+use Prim.Native.Nat.{ℕ, _+_, _-_, _*_, _≤_, _<_}
+use mathlib.Core.Bool.{Bool, true, false, cond}
+use mathlib.Core.Path.{_≡_, refl, sym, ap, ap₂, _∙_}
+use mathlib.Core.List.{List}
+use native.Mathlib.Omega.{arith}
+use lib.Dec.{leb, ltb}
+use lib.IntN.{ℤ}
+use lib.ListN.{length, set}
+use mir.Val.{Fits, SFits, toZ, ofZ}
+use mir.Syntax.{w8, w16}
+use mir.Facts.{toZ-ofZ}
+use borrow.Author.Tests.{le-leb, lt-leb, lt-ltb, le-ltb, ltb-true, ltb-false}
+use Rattle.bits.specs.Bits.{bitsAt, getOf}
+use Rattle.bits.proofs.BitLaws.{get-in}
+use Rattle.reading.specs.Tree.{Part}
+use Rattle.reading.specs.Run.{Field, fieldOf, skim}
+use Rattle.reading.specs.Room.{Room, room, size, pushed, exec}
+use Rattle.syntax.specs.Records.{part, told, seen, goingAt, haltedAt, Kept, kept, recordOf, keepOf, readOf, spanOf, rawOf}
+use Rattle.syntax.specs.declared.Cursor.{Cursor}
+
+-- a sum tested without making it
+pub moved : (at wide end : ℕ) → wide ≤ end → (b : Bool) → ltb (end - wide) at ≡ b → b ≡ ltb end (at + wide)
+moved at wide end h true e = let l : end - wide < at = ltb-true (end - wide) at e in sym (lt-ltb end (at + wide) (omega arith))
+moved at wide end h false e = let l : at ≤ end - wide = ltb-false (end - wide) at e in sym (le-ltb end (at + wide) (omega arith))
+
+-- what does not pass a place fits where the place does
+pub fits16 : (b : Bool) (x l : ℕ) → b ≡ ltb l x → b ≡ false → Fits w16 l → Fits w16 x
+fits16 b x l e f h = omega (arith, h, ltb-false l x (sym e ∙ f))
+
+-- a record's block and index, handed on as the bits of an i8 and an i16
+pub signed : {b i : ℤ} → SFits w8 b → SFits w16 i → (name p w v : ℕ) → fieldOf (part name (toZ w8 (ofZ w8 b)) (toZ w16 (ofZ w16 i))) p w v ≡ fieldOf (part name b i) p w v
+signed hb hi name p w v = ap₂ (λ x y. fieldOf (part name x y) p w v) (toZ-ofZ hb) (toZ-ofZ hi)
+
+-- a record into the room
+module _ (m : Room) (n : ℕ) (f : Field) where
+  pub record-full : size m ≤ n → kept 0 m ≡ recordOf m n f
+  unfolding recordOf
+  record-full h = rw (le-leb _ _ h)
+
+  pub record-made : n < size m → (b i : ℤ) → b ≡ f .block → i ≡ f .index
+      → kept (n + 1) (room (set (m .names) n (f .name)) (set (m .blocks) n b) (set (m .indexes) n i) (set (m .firsts) n (f .first)) (set (m .widths) n (f .width)) (set (m .values) n (f .value)))
+      ≡ recordOf m n f
+  unfolding recordOf pushed
+  record-made h b i eb ei = rw (eb, ei, lt-leb _ _ h)
+
+  -- and the reading goes on, or is refused
+  module _ (g : Field) (eg : g ≡ f) (c : ℕ) (mu : Room) (e : kept c mu ≡ recordOf m n g) (next : ℕ) (r : Cursor) where
+    noticed : (b : Bool) → leb (size m) n ≡ b → kept c mu ≡ cond b (kept 0 m) (kept (n + 1) (pushed m n f))
+    unfolding recordOf
+    noticed b eb = e ∙ ap (recordOf m n) eg ∙ ap (λ y. cond y (kept 0 m) (kept (n + 1) (pushed m n f))) eb
+
+    pub keep-full : c ≡ 0 → r ≡ haltedAt (f .first) n 33 → told r (f .value) mu ≡ keepOf f next n m
+    keep-full ec er = go (leb (size m) n) refl
+      where
+        go : (b : Bool) → leb (size m) n ≡ b → told r (f .value) mu ≡ keepOf f next n m
+        go true eb = let z : mu ≡ m = ap (λ (o : Kept). o .left) (noticed true eb) in rw (er, eb, z)
+        go false eb = let z : c ≡ n + 1 = ap (λ (o : Kept). o .count) (noticed false eb) in absurd (omega arith)
+
+    pub keep-made : ¬ (c ≡ 0) → r ≡ goingAt next c → told r (f .value) mu ≡ keepOf f next n m
+    keep-made nc er = go (leb (size m) n) refl
+      where
+        go : (b : Bool) → leb (size m) n ≡ b → told r (f .value) mu ≡ keepOf f next n m
+        go true eb = let z : c ≡ 0 = ap (λ (o : Kept). o .count) (noticed true eb) in absurd (nc z)
+        go false eb =
+            let z : c ≡ n + 1 = ap (λ (o : Kept). o .count) (noticed false eb) in
+            let y : mu ≡ pushed m n f = ap (λ (o : Kept). o .left) (noticed false eb) in
+            rw (er, eb, z, y)
+
+pub keep-same : (m mu : Room) (n next : ℕ) (g f : Field) → g ≡ f → (r : Cursor) → told r (f .value) mu ≡ keepOf g next n m → told r (f .value) mu ≡ keepOf f next n m
+keep-same m mu n next g f eg r e = e ∙ ap (λ x. keepOf x next n m) eg
+
+-- bits at the place p, which pass the limit or not
+module _ (s : List ℕ) (l w p n : ℕ) (b : Bool) (eb : b ≡ ltb l (p + w)) (r : Cursor) where
+  over : b ≡ true → leb (p + w) l ≡ false
+  over h = let c : l < p + w = ltb-true _ _ (sym eb ∙ h) in lt-leb _ _ c
+
+  module _ (h : b ≡ true) (er : r ≡ haltedAt p n 8) (v : ℕ) where
+    pub read-past : (q : Part) (m : Room) → told r v m ≡ readOf s l q w p n m
+    unfolding exec
+    read-past q m = rw (er, over h)
+
+    pub span-past : (q : Part) (m : Room) → told r v m ≡ spanOf s l q w p n m
+    unfolding exec
+    span-past q m = rw (er, over h)
+
+    pub raw-past : (seen r v ≡ rawOf s l w p) × (r .count ≡ n)
+    unfolding skim
+    raw-past = (rw (er, over h), rw er)
+
+  module _ (h : b ≡ false) where
+    under : leb (p + w) l ≡ true
+    under = let c : p + w ≤ l = ltb-false _ _ (sym eb ∙ h) in le-leb _ _ c
+
+    pub span-in : (q : Part) (m mu : Room) (g : Field) → g ≡ fieldOf q p w 0 → told r 0 mu ≡ keepOf g (p + w) n m → told r 0 mu ≡ spanOf s l q w p n m
+    unfolding exec
+    span-in q m mu g eg e = rw under (keep-same m mu n (p + w) g _ eg r e)
+
+    module _ (small : w ≤ 32) (ends : l ≤ 8 * length s) (v : ℕ) (ev : v ≡ getOf s p w) where
+      value : bitsAt s p w ≡ v
+      value = let c : p + w ≤ l = ltb-false _ _ (sym eb ∙ h) in sym (ev ∙ get-in s p w small (omega arith))
+
+      pub read-in : (q : Part) (m mu : Room) (g : Field) → g ≡ fieldOf q p w v → told r v mu ≡ keepOf g (p + w) n m → told r v mu ≡ readOf s l q w p n m
+      unfolding exec
+      read-in q m mu g eg e = rw (under, value) (keep-same m mu n (p + w) g _ eg r e)
+
+      pub raw-in : r ≡ goingAt (p + w) n → (seen r v ≡ rawOf s l w p) × (r .count ≡ n)
+      unfolding skim
+      raw-in er = (rw (er, under, value), rw er)

@@ -1,0 +1,306 @@
+// The recording cursor: elements, spans, and bits inside a span (syntax.rs). Records go into six lent
+// slices side by side, as many as the shortest of them has room for.
+use bits::BitPlace;
+ghost use mathlib.Core.Path.{_≡_};
+ghost use mathlib.Core.List.{List};
+ghost use Prim.Native.Nat.{ℕ, _+_, _-_, _*_, _≤_, min};
+ghost use lib.Dec.{ltb};
+ghost use lib.ListN.{length};
+ghost use Rattle.reading.specs.Run.{fieldOf};
+ghost use Rattle.reading.specs.Room.{room};
+ghost use Rattle.syntax.specs.Records.{part, told, seen, haltedAt, goingAt, kept, recordOf, keepOf, readOf, spanOf, rawOf, closeOf};
+
+// Where a reading stands: the next bit, the number of records, and the refusal that stopped it.
+pub struct Cursor {
+    pub at: BitPlace,
+    pub count: usize,
+    pub stopped: bool,
+    pub number: u8,
+}
+
+// A cursor and the value that was read, which means nothing where the cursor is stopped.
+pub struct Taken {
+    pub cursor: Cursor,
+    pub value: u32,
+}
+
+// A cursor that is stopped by a refusal.
+pub fn halted(at: BitPlace, count: usize, number: u8) -> Cursor
+    ensures { λ r. ⌜ r ≡ haltedAt (at .0) count number ⌝ }
+{
+    Cursor {
+        at: at,
+        count: count,
+        stopped: true,
+        number: number,
+    }
+}
+
+// A cursor that goes on.
+pub fn going(at: BitPlace, count: usize) -> Cursor
+    ensures { λ r. ⌜ r ≡ goingAt (at .0) count ⌝ }
+{
+    Cursor {
+        at: at,
+        count: count,
+        stopped: false,
+        number: 0,
+    }
+}
+
+// Whether `wide` bits from `at` on pass the end.
+pub fn past(at: BitPlace, wide: u16, end: BitPlace) -> bool
+    ensures { λ r. ⌜ r ≡ ltb (end .0) (at .0 + wide) ⌝ }
+{
+    if end.0 < wide {
+        return true;
+    }
+    end.0 - wide < at.0
+}
+
+fn lesser(a: usize, b: usize) -> usize
+    ensures { λ r. ⌜ r ≡ min a b ⌝ }
+{
+    if a < b { a } else { b }
+}
+
+fn least(a: usize, b: usize, c: usize, d: usize, e: usize, f: usize) -> usize
+    ensures { λ r. ⌜ r ≡ min a (min b (min c (min d (min e f)))) ⌝ }
+{
+    lesser(a, lesser(b, lesser(c, lesser(d, lesser(e, f)))))
+}
+
+// Puts a record into the room at the place `count`. The new count, or 0 where there is no room.
+pub fn record(
+    names: &mut [u8],
+    blocks: &mut [i8],
+    indexes: &mut [i16],
+    firsts: &mut [u16],
+    widths: &mut [u16],
+    values: &mut [u32],
+    count: usize,
+    name: u8,
+    block: i8,
+    index: i16,
+    first: BitPlace,
+    width: u16,
+    value: u32,
+) -> usize
+    ensures { λ r. ⌜ kept r (room (now (names .exit)) (now (blocks .exit)) (now (indexes .exit)) (now (firsts .exit)) (now (widths .exit)) (now (values .exit)))
+        ≡ recordOf (room (now (names .entry)) (now (blocks .entry)) (now (indexes .entry)) (now (firsts .entry)) (now (widths .entry)) (now (values .entry))) count (fieldOf (part name block index) (first .0) width value) ⌝ }
+{
+    if least(
+        names.len(),
+        blocks.len(),
+        indexes.len(),
+        firsts.len(),
+        widths.len(),
+        values.len(),
+    )
+        <= count
+    {
+        return 0;
+    }
+    names[count] = name;
+    blocks[count] = block;
+    indexes[count] = index;
+    firsts[count] = first.0;
+    widths[count] = width;
+    values[count] = value;
+    count + 1
+}
+
+// A record from `first` on, after which the reading goes on at `next`; 33 where there is no room.
+pub fn keep(
+    names: &mut [u8],
+    blocks: &mut [i8],
+    indexes: &mut [i16],
+    firsts: &mut [u16],
+    widths: &mut [u16],
+    values: &mut [u32],
+    count: usize,
+    name: u8,
+    block: i8,
+    index: i16,
+    first: BitPlace,
+    width: u16,
+    value: u32,
+    next: BitPlace,
+) -> Cursor
+    ensures { λ r. ⌜ told r value (room (now (names .exit)) (now (blocks .exit)) (now (indexes .exit)) (now (firsts .exit)) (now (widths .exit)) (now (values .exit)))
+        ≡ keepOf (fieldOf (part name block index) (first .0) width value) (next .0) count (room (now (names .entry)) (now (blocks .entry)) (now (indexes .entry)) (now (firsts .entry)) (now (widths .entry)) (now (values .entry))) ⌝ }
+{
+    let n = record(
+        names,
+        blocks,
+        indexes,
+        firsts,
+        widths,
+        values,
+        count,
+        name,
+        block,
+        index,
+        first,
+        width,
+        value,
+    );
+    if n == 0 {
+        return halted(first, count, 33);
+    }
+    going(next, n)
+}
+
+// An element of `width` bits: read and recorded. 8 where it passes the limit, then 33 where there is no room.
+pub fn read(
+    src: &[u8],
+    names: &mut [u8],
+    blocks: &mut [i8],
+    indexes: &mut [i16],
+    firsts: &mut [u16],
+    widths: &mut [u16],
+    values: &mut [u32],
+    cur: Cursor,
+    limit: BitPlace,
+    name: u8,
+    block: i8,
+    index: i16,
+    width: u16,
+) -> Taken
+    requires { ⌜ (width ≤ 32) × (limit .0 ≤ 8 * length (now src)) ⌝ }
+    ensures { λ r. ⌜ told (r .cursor) (r .value) (room (now (names .exit)) (now (blocks .exit)) (now (indexes .exit)) (now (firsts .exit)) (now (widths .exit)) (now (values .exit)))
+        ≡ readOf (now (src .entry)) (limit .0) (part name block index) width (cur .at .0) (cur .count) (room (now (names .entry)) (now (blocks .entry)) (now (indexes .entry)) (now (firsts .entry)) (now (widths .entry)) (now (values .entry))) ⌝ }
+{
+    let at = cur.at;
+    let count = cur.count;
+    if past(at, width, limit) {
+        return Taken {
+            cursor: halted(at, count, 8),
+            value: 0,
+        };
+    }
+    let value = bits::get(src, at, width);
+    let next = BitPlace(at.0 + width);
+    let c = keep(
+        names,
+        blocks,
+        indexes,
+        firsts,
+        widths,
+        values,
+        count,
+        name,
+        block,
+        index,
+        at,
+        width,
+        value,
+        next,
+    );
+    Taken {
+        cursor: c,
+        value: value,
+    }
+}
+
+// `width` bits as one record, not looked at. 8 where they pass the limit, then 33 where there is no room.
+pub fn span(
+    names: &mut [u8],
+    blocks: &mut [i8],
+    indexes: &mut [i16],
+    firsts: &mut [u16],
+    widths: &mut [u16],
+    values: &mut [u32],
+    cur: Cursor,
+    limit: BitPlace,
+    name: u8,
+    block: i8,
+    index: i16,
+    width: u16,
+) -> Cursor
+    ensures { λ r. ⌜ ((s : List ℕ) → told r 0 (room (now (names .exit)) (now (blocks .exit)) (now (indexes .exit)) (now (firsts .exit)) (now (widths .exit)) (now (values .exit)))
+        ≡ spanOf s (limit .0) (part name block index) width (cur .at .0) (cur .count) (room (now (names .entry)) (now (blocks .entry)) (now (indexes .entry)) (now (firsts .entry)) (now (widths .entry)) (now (values .entry)))) ⌝ }
+{
+    let at = cur.at;
+    let count = cur.count;
+    if past(at, width, limit) {
+        return halted(at, count, 8);
+    }
+    let next = BitPlace(at.0 + width);
+    keep(
+        names,
+        blocks,
+        indexes,
+        firsts,
+        widths,
+        values,
+        count,
+        name,
+        block,
+        index,
+        at,
+        width,
+        0,
+        next,
+    )
+}
+
+// `width` bits inside a span: read, not recorded. 8 where they pass the limit.
+pub fn raw(src: &[u8], cur: Cursor, limit: BitPlace, width: u16) -> Taken
+    requires { ⌜ (width ≤ 32) × (limit .0 ≤ 8 * length (now src)) ⌝ }
+    ensures { λ r. ⌜ (seen (r .cursor) (r .value) ≡ rawOf (now (src .entry)) (limit .0) width (cur .at .0)) × (r .cursor .count ≡ cur .count) ⌝ }
+{
+    let at = cur.at;
+    let count = cur.count;
+    if past(at, width, limit) {
+        return Taken {
+            cursor: halted(at, count, 8),
+            value: 0,
+        };
+    }
+    let value = bits::get(src, at, width);
+    let next = BitPlace(at.0 + width);
+    Taken {
+        cursor: going(next, count),
+        value: value,
+    }
+}
+
+// A span from `first` up to the cursor, recorded now that it closes; 33 where there is no room.
+pub fn close(
+    names: &mut [u8],
+    blocks: &mut [i8],
+    indexes: &mut [i16],
+    firsts: &mut [u16],
+    widths: &mut [u16],
+    values: &mut [u32],
+    cur: Cursor,
+    name: u8,
+    block: i8,
+    index: i16,
+    first: BitPlace,
+) -> Cursor
+    requires { ⌜ first .0 ≤ cur .at .0 ⌝ }
+    ensures { λ r. ⌜ told r 0 (room (now (names .exit)) (now (blocks .exit)) (now (indexes .exit)) (now (firsts .exit)) (now (widths .exit)) (now (values .exit)))
+        ≡ closeOf (part name block index) (first .0) (cur .at .0) (cur .count) (room (now (names .entry)) (now (blocks .entry)) (now (indexes .entry)) (now (firsts .entry)) (now (widths .entry)) (now (values .entry))) ⌝ }
+{
+    let at = cur.at;
+    let count = cur.count;
+    let width = at.0 - first.0;
+    keep(
+        names,
+        blocks,
+        indexes,
+        firsts,
+        widths,
+        values,
+        count,
+        name,
+        block,
+        index,
+        first,
+        width,
+        0,
+        at,
+    )
+}
