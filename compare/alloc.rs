@@ -1,0 +1,141 @@
+//! Compares `alloc_by_codes` (the proved allocation) with the Rust's `allocate` on random inputs, bin by bin, and times both.
+//! usage: alloc [COUNT [SEED]]
+// The reference's files, as they are: the script puts them beside this one.
+#[allow(dead_code)]
+mod alloc;
+mod bitalloc_tables;
+#[allow(dead_code)]
+mod tables;
+use alloc as rust;
+use std::time::Instant;
+
+#[allow(improper_ctypes)]
+extern "C" {
+    fn alloc_by_codes(
+        exps: &[u8], out: &mut [u8], offset: &[u8; 8], len: &[u8; 8], ba: &[u8; 8], n: usize, start: usize, end: usize,
+        fscod: usize, sdcycod: u8, fdcycod: u8, sgaincod: u8, dbpbcod: u8, floorcod: u8, fgaincod: u8, csnroffst: u8,
+        fsnroffst: u8, coupling: bool, cplfleak: u8, cplsleak: u8, hebap: bool,
+    );
+}
+
+struct Random(u64);
+
+impl Random {
+    fn next(&mut self) -> u64 {
+        self.0 = self.0.wrapping_add(0x9e37_79b9_7f4a_7c15);
+        let mut z = self.0;
+        z = (z ^ (z >> 30)).wrapping_mul(0xbf58_476d_1ce4_e5b9);
+        z = (z ^ (z >> 27)).wrapping_mul(0x94d0_49bb_1331_11eb);
+        z ^ (z >> 31)
+    }
+    fn below(&mut self, n: u64) -> u64 { self.next() % n }
+    fn byte(&mut self, n: u64) -> u8 { self.below(n) as u8 }
+}
+
+#[derive(Clone)]
+struct Input {
+    exps: [u8; 256], start: usize, end: usize, n: usize, offset: [u8; 8], len: [u8; 8], ba: [u8; 8], fscod: usize,
+    bai: [u8; 5], fgaincod: u8, csnr: u8, fsnr: u8, coupling: bool, leaks: (u8, u8), hebap: bool,
+}
+
+fn input(r: &mut Random) -> Input {
+    let (start, end, coupling) = match r.below(8) {
+        0 => (0, 7, false),                                                      // LFE
+        1 | 2 => (0, 37 + 3 * r.below(73) as usize, false),                      // full bandwidth, or up to coupling
+        3 | 4 => {                                                               // coupling
+            let a = r.below(18) as usize;
+            (37 + 12 * a, 37 + 12 * (a + 1 + r.below(18 - a as u64) as usize), true)
+        }
+        5 => (0, r.below(254) as usize, r.below(2) == 0),                        // odd ends, 0 among them
+        6 => (r.below(254) as usize, r.below(254) as usize, r.below(2) == 0),    // odd ranges, empty ones among them
+        _ => { let a = r.below(253) as usize; (a, a + 1, r.below(2) == 0) }      // one bin
+    };
+    let mut exps = [0u8; 256];
+    match r.below(3) {
+        0 => for e in exps.iter_mut() { *e = r.byte(25) },
+        1 => { let e = r.byte(25); exps = [e; 256] }
+        _ => {                                                                   // steps of -2 .. 2, as exponents are sent
+            let mut e = r.below(25) as i32;
+            for x in exps.iter_mut() { e = (e + r.below(5) as i32 - 2).clamp(0, 24); *x = e as u8 }
+        }
+    }
+    let (mut offset, mut len, mut ba) = ([0u8; 8], [0u8; 8], [0u8; 8]);
+    let spread = [1, 4, 32][r.below(3) as usize];                                // small offsets keep segments close
+    for i in 0..8 { offset[i] = r.byte(spread); len[i] = r.byte(16); ba[i] = r.byte(8) }
+    Input {
+        exps, start, end, n: if r.below(2) == 0 { 0 } else { r.below(9) as usize }, offset, len, ba, fscod: r.below(3) as usize,
+        bai: [r.byte(4), r.byte(4), r.byte(4), r.byte(4), r.byte(8)], fgaincod: r.byte(8), csnr: r.byte(64), fsnr: r.byte(16),
+        coupling, leaks: (r.byte(8), r.byte(8)), hebap: r.below(2) == 0,
+    }
+}
+
+fn ours(i: &Input, out: &mut [u8; 256]) {
+    let b = &i.bai;
+    // The inputs meet the function's premises: 256 exponents of at most 24, end at most 253, at most 8 segments, codes in range.
+    unsafe {
+        alloc_by_codes(&i.exps, out, &i.offset, &i.len, &i.ba, i.n, i.start, i.end, i.fscod, b[0], b[1], b[2], b[3], b[4],
+            i.fgaincod, i.csnr, i.fsnr, i.coupling, i.leaks.0, i.leaks.1, i.hebap)
+    }
+}
+
+fn theirs(i: &Input, exp: &[i16; 256], delta: &[rust::DeltaSeg]) -> Vec<u8> {
+    let p = rust::Params {
+        sdecay: i32::from(tables::SLOW_DECAY[i.bai[0] as usize]), fdecay: i32::from(tables::FAST_DECAY[i.bai[1] as usize]),
+        sgain: i32::from(tables::SLOW_GAIN[i.bai[2] as usize]), dbknee: i32::from(tables::DB_KNEE[i.bai[3] as usize]),
+        floor: i32::from(tables::FLOOR[i.bai[4] as usize]), fscod: i.fscod,
+    };
+    let leak = i.coupling.then(|| ((i32::from(i.leaks.0) << 8) + 768, (i32::from(i.leaks.1) << 8) + 768));
+    let snroffset = (((i32::from(i.csnr) - 15) << 4) + i32::from(i.fsnr)) << 2;
+    let fgain = i32::from(tables::FAST_GAIN[i.fgaincod as usize]);
+    let c = rust::Channel { exp, start: i.start, end: i.end, fgain, snroffset, leak, delta };
+    rust::allocate(&c, &p, if i.hebap { &tables::HEBAP } else { &tables::BAP })
+}
+
+fn rust_parts(i: &Input) -> ([i16; 256], Vec<rust::DeltaSeg>) {
+    let mut exp = [0i16; 256];
+    for k in 0..256 { exp[k] = i16::from(i.exps[k]) }
+    (exp, (0..i.n).map(|k| rust::DeltaSeg { offset: i.offset[k], len: i.len[k], ba: i.ba[k] }).collect())
+}
+
+fn time(name: &str, runs: u32, mut f: impl FnMut() -> u64) {
+    let mut best = f64::MAX;
+    let mut sum = 0;
+    for _ in 0..5 {
+        let t = Instant::now();
+        for _ in 0..runs { sum = f().wrapping_add(sum) }
+        best = best.min(t.elapsed().as_nanos() as f64 / f64::from(runs));
+    }
+    println!("{name}: {best:.0} ns a call ({sum})");
+}
+
+fn main() {
+    let mut args = std::env::args().skip(1).map(|a| a.parse::<u64>().expect("a number"));
+    let count = args.next().unwrap_or(1_000_000);
+    let mut r = Random(args.next().unwrap_or(1));
+    let (mut differ, mut empty, mut nonzero) = (0u64, 0u64, 0u64);
+    for n in 0..count {
+        let i = input(&mut r);
+        let (exp, delta) = rust_parts(&i);
+        let mut a = [0xeeu8; 256];
+        ours(&i, &mut a);
+        let mut b = theirs(&i, &exp, &delta);
+        b.resize(256, 0);
+        empty += u64::from(i.end <= i.start);
+        nonzero += u64::from(b.iter().any(|&x| x != 0));
+        if a[..] != b[..] {
+            differ += 1;
+            if differ == 1 { println!("input {n} differs: start {} end {} hebap {} n {}", i.start, i.end, i.hebap, i.n) }
+        }
+    }
+    println!("{count} inputs, {empty} with an empty range, {nonzero} with a pointer above 0: {differ} differ");
+    for (name, start, end, n) in [("empty range", 0, 0, 0), ("LFE, 7 bins", 0, 7, 0), ("coupling, 120 bins", 37, 157, 0), ("253 bins", 0, 253, 0), ("253 bins, 8 segments", 0, 253, 8)] {
+        let mut i = input(&mut Random(7));
+        i.start = start; i.end = end; i.n = n; i.csnr = 30; i.bai = [2, 1, 1, 2, 7]; i.coupling = start > 0;
+        for k in 0..256 { i.exps[k] = (3 + k / 20 + k % 3) as u8 }
+        let (exp, delta) = rust_parts(&i);
+        let mut out = [0u8; 256];
+        time(&format!("ours, {name}"), 100_000, || { ours(std::hint::black_box(&i), &mut out); u64::from(out[100]) });
+        time(&format!("Rust, {name}"), 100_000, || u64::from(theirs(std::hint::black_box(&i), &exp, &delta).get(100).copied().unwrap_or(0)));
+    }
+    std::process::exit(i32::from(differ != 0));
+}

@@ -1,0 +1,9 @@
+pub mod Carry
+pub mod Codes
+pub mod Edges
+pub mod Excitation
+pub mod Lists
+pub mod LogSums
+pub mod Signs
+pub mod Sums
+pub mod Whole

@@ -1,0 +1,72 @@
+-- The sums of the bands.
+-- Assumes nothing.
+use mathlib.Core.Path.{_≡_, _∙_, sym}
+use mathlib.Core.Bool.{cond, _&&_}
+use mathlib.Core.List.{List}
+use Prim.Native.Nat.{ℕ, zero, suc, _+_, _-_, _*_, _<_, _≤_}
+use native.Mathlib.Decide.{decLt}
+use native.Mathlib.Omega.{arith}
+use borrow.Author.Tests.{le-ltb}
+use lib.Dec.{ltb, leb}
+use lib.ListN.{getD, replicate, List·getD-eq-default}
+use Rattle.tables.specs.Bands.{bandOf, startOf, endOf}
+use Rattle.tables.proofs.Bins.{own-band, apart-bands}
+use Rattle.alloc.specs.Allocation.{tab, firstIn, lastIn}
+use Rattle.alloc.specs.Levels.{logaddL, psdL, sumL, bndpsdL, bndpsdsL}
+use Rattle.alloc.specs.Premises.{Written}
+use Rattle.alloc.proofs.Lists.{length-tab, getD-tab, tab-same, within, outside, sooner-than, written-list, picked-low}
+use Rattle.alloc.proofs.LogSums.{logadd-bound}
+
+-- a sum of n + 1 powers is at most 64 n above one of 3072
+pub sum-high : (exp : List ℕ) (lo n : ℕ) → sumL exp lo n ≤ 11264 + 64 * n
+sum-high exp lo zero = omega arith
+sum-high exp lo (suc n) =
+    let h = sum-high exp lo n in
+    let b = logadd-bound (sumL exp lo n) (psdL (getD exp (suc (lo + n)) 0)) in
+    omega (arith, b .high)
+
+-- the sum of the bins lo .. j - 1, with bin j
+pub sum-more : (exp : List ℕ) (lo j : ℕ) → lo < j → logaddL (sumL exp lo (j - lo - 1)) (psdL (getD exp j 0)) ≡ sumL exp lo (j + 1 - lo - 1)
+sum-more exp lo j h =
+    let z : j + 1 - lo - 1 ≡ suc (j - lo - 1) = omega arith in
+    let l : suc (lo + (j - lo - 1)) ≡ j = omega arith in
+    rw (z, l)
+
+-- the bands of a range that is not empty; the others keep the level of 0
+module _ (exp : List ℕ) (start end : ℕ) (some : start < end) (most : end ≤ 253) where
+  none : (k : ℕ) → lastIn end k ≤ firstIn start k → bndpsdL exp start end k ≡ 8192
+  none k h = simp (le-ltb (firstIn start k) (lastIn end k) h)
+
+  at : (k : ℕ) → k < 50 → Dec (k < bandOf start) → Dec (k < bandOf (end - 1) + 1)
+      → cond (leb (bandOf start) k && ltb k (bandOf (end - 1) + 1)) (bndpsdL exp start end k) 8192 ≡ bndpsdL exp start end k
+  at k h (yes p) d =
+      let b = own-band start (omega arith) in
+      let q : endOf k ≤ startOf (bandOf start) = apart-bands k (bandOf start) p (b .is) in
+      sooner-than (bandOf start) (bandOf (end - 1) + 1) k _ 8192 p ∙ sym (none k (omega (arith, b .from)))
+  at k h (no p) (yes q) = within (bandOf start) (bandOf (end - 1) + 1) k _ 8192 (omega arith) q
+  at k h (no p) (no q) =
+      let b = own-band (end - 1) (omega arith) in
+      let r : endOf (bandOf (end - 1)) ≤ startOf k = apart-bands (bandOf (end - 1)) k (omega arith) h in
+      outside (bandOf start) (bandOf (end - 1) + 1) k _ 8192 p (omega arith) ∙ sym (none k (omega (arith, b .to)))
+
+  pub bands-are : (bnd : List ℕ) → Written (bndpsdL exp start end) (bandOf start) (bandOf (end - 1) + 1) (replicate 50 8192) bnd
+      → bnd ≡ bndpsdsL exp start end
+  unfolding bndpsdsL
+  bands-are bnd w =
+      written-list (bndpsdL exp start end) (bandOf start) (bandOf (end - 1) + 1) 50 8192 bnd w
+      ∙ tab-same _ (bndpsdL exp start end) 50 (λ k h. at k h (decLt k _) (decLt k _))
+
+power-low : (exp : List ℕ) (start end k : ℕ) → end ≤ 253 → bndpsdL exp start end k < 32768
+power-low exp start end k h =
+    picked-low (ltb (firstIn start k) (lastIn end k)) _ _ 32768
+    (omega (arith, sum-high exp (firstIn start k) (lastIn end k - firstIn start k - 1))) (omega arith)
+
+low-at : (exp : List ℕ) (start end k : ℕ) → end ≤ 253 → Dec (k < 50) → getD (bndpsdsL exp start end) k 0 < 32768
+unfolding bndpsdsL
+low-at exp start end k h (yes b) = rw (getD-tab (bndpsdL exp start end) 50 k b) (power-low exp start end k h)
+low-at exp start end k h (no n) =
+    let l = length-tab (bndpsdL exp start end) 0 50 in
+    rw (List·getD-eq-default (tab (bndpsdL exp start end) 0 50) 0 {n = k} (omega arith)) (omega arith)
+
+pub bands-low : (exp : List ℕ) (start end : ℕ) → end ≤ 253 → (k : ℕ) → getD (bndpsdsL exp start end) k 0 < 32768
+bands-low exp start end h k = low-at exp start end k h (decLt k 50)

@@ -1,0 +1,68 @@
+use mathlib.Core.Path.{_∙_}
+use Rattle.alloc.specs.Allocation.{pointer, allocation}
+use Rattle.alloc.proofs.Carry.{levels-are}
+use Rattle.alloc.proofs.Lists.{written-empty}
+use borrow.Author.Needs.{needs}
+use Rattle.alloc.proofs.allocate.Statement.{statement}
+use Rattle.alloc.proofs.allocate.Tie as tie
+
+clear-requires : tie.Need-clear-requires
+clear-requires c κs = search needs
+
+same-length : tie.Need-same-length
+same-length c = search needs
+
+returns : tie.Need-returns
+unfolding allocation
+returns c =
+    let a = c .before .before .before .before .before .before .before .args in
+    written-empty (pointer (a .kind) (a .exps .now) (a .c) (a .p) (a .l) (a .d)) (a .c .start) (a .c .end) 256 _ _ (c .before .before .before .before .before .before .before .pre .1 .0 .1) (c .before .before .before .before .if1 .taken)
+    (c .before .before .clear .ensures)
+
+gains-of-requires : tie.Need-gains-of-requires
+gains-of-requires c κs = search needs
+
+levels-of-requires : tie.Need-levels-of-requires
+levels-of-requires c κs = search needs
+
+leaks-of-requires : tie.Need-leaks-of-requires
+leaks-of-requires c κs = search needs
+
+base-of-requires : tie.Need-base-of-requires
+base-of-requires c κs = search needs
+
+allocate-some-requires : tie.Need-allocate-some-requires
+allocate-some-requires c κs =
+    let p = c .before .before .before .before .before .before .before .before .pre in
+    let r = p .1 .1 .0 in (
+      p .0,
+      (
+        (c .before .before .before .before .before .if1 .left, r .within, p .1 .0 .0, p .1 .0 .1),
+        (c .before .before .leaks-of .ensures .1, r .segs, c .before .before .before .levels-of .ensures .1, c .before .base-of .ensures .1),
+      ),
+    )
+
+same-length-2 : tie.Need-same-length-2
+same-length-2 c = search needs
+
+returns-2 : tie.Need-returns-2
+returns-2 c =
+    let a = c .before .before .before .before .before .before .before .before .before .before .before .args in
+    let p = c .before .before .before .before .before .before .before .before .before .before .before .pre in
+    (rw (c .before .before .before .before .before .before .before .gains-of .ensures, c .before .before .before .before .before .before .levels-of .ensures .0, c .before .before .before .before .before .leaks-of .ensures .0, c .before .before .before .before .base-of .ensures .0, p .0 .points) at (c .before .before .allocate-some .ensures))
+    ∙ levels-are (a .kind) (a .exps .now) (a .c) (a .p) (a .l) (a .d) (c .before .before .before .before .before .before .before .before .if1 .left) (p .1 .0 .0) (p .1 .1 .0) (p .1 .1 .1)
+
+pub allocate-spec : {M : Type 1} → statement M
+allocate-spec =
+    tie.close
+    (tie.spec
+    clear-requires
+    same-length
+    returns
+    gains-of-requires
+    levels-of-requires
+    leaks-of-requires
+    base-of-requires
+    allocate-some-requires
+    same-length-2
+    returns-2)

@@ -1,0 +1,88 @@
+use Rattle.alloc.proofs.Whole.{masks-are, all-are}
+use mathlib.Core.Path.{ap, _∙_}
+use native.Mathlib.Omega.{arith}
+use Prim.Native.Nat.{_+_, _-_}
+use Rattle.tables.proofs.Bins.{bands-rise}
+use Rattle.alloc.specs.Levels.{pointerL}
+use Rattle.alloc.proofs.Lists.{written-whole}
+use Rattle.alloc.proofs.Sums.{bands-low}
+use borrow.Author.Needs.{needs}
+use Rattle.alloc.proofs.allocate_some.Statement.{statement}
+use Rattle.alloc.proofs.allocate_some.Tie as tie
+
+band-of-requires : tie.Need-band-of-requires
+band-of-requires c κs = search needs
+
+sub-band-of : tie.Need-sub-band-of
+sub-band-of c = search needs
+
+band-of-requires-2 : tie.Need-band-of-requires-2
+band-of-requires-2 c κs = search needs
+
+add-last : tie.Need-add-last
+add-last c = search needs
+
+bands-requires : tie.Need-bands-requires
+bands-requires c κs =
+    let p = c .before .before .before .before .pre in
+    let r = p .1 .0 in
+    ((p .0 .log, p .0 .ends), (r .0, r .1, r .2, c .before .band-of .ensures .band, ap (λ x. x + 1) (c .band-of2 .ensures .band)))
+
+masks-requires : tie.Need-masks-requires
+masks-requires c κs =
+    let p = c .before .before .before .before .before .before .pre in
+    let a = c .before .before .before .before .before .before .args in
+    let one = c .before .before .before .band-of .ensures in
+    let two = c .before .before .band-of2 .ensures in
+    let r = bands-rise (a .start) (a .end - 1) (c .before .before .before .band-of .result) (c .before .before .band-of2 .result) (omega (arith, p .1 .0 .0)) one two in (
+      (p .0 .heard, omega arith, omega (arith, two .is), λ k. rw (c .before .bands .ensures) (bands-low (a .exps .now) (a .start) (a .end) (p .1 .0 .1) k)),
+      (p .1 .1 .0, p .1 .1 .1, p .1 .1 .2),
+    )
+
+clear-requires : tie.Need-clear-requires
+clear-requires c κs =
+    let p = c .before .before .before .before .before .before .before .before .pre .1 .0 in
+    (omega arith, omega (arith, p .0, p .1), p .3)
+
+point-bands-requires : tie.Need-point-bands-requires
+point-bands-requires c κs =
+    let p = c .before .before .before .before .before .before .before .before .before .before .before .before .before .pre in
+    let r = p .1 .0 in (
+      (p .0 .ends, r .0, r .1, p .1 .1 .3, c .before .before .before .before .before .before .before .before .before .before .band-of .ensures .band),
+      (r .2, c .before .before .before .before .clear .ensures .size ∙ r .3),
+    )
+
+clear-requires-2 : tie.Need-clear-requires-2
+clear-requires-2 c κs =
+    let p = c .before .before .before .before .before .before .before .before .before .before .before .before .before .before .before .before .before .pre .1 .0 in
+    (omega (arith, p .1), omega arith, c .before .before .before .point-bands .ensures .size ∙ c .before .before .before .before .before .before .before .before .clear .ensures .size ∙ p .3)
+
+same-length : tie.Need-same-length
+same-length c = c .before .before .clear2 .ensures .size ∙ c .before .before .before .before .before .before .point-bands .ensures .size ∙ c .before .before .before .before .before .before .before .before .before .before .before .clear .ensures .size
+
+returns : tie.Need-returns
+returns c =
+    let a = c .before .before .before .before .before .before .before .before .before .before .before .before .before .before .before .before .before .before .before .before .args in
+    let p = c .before .before .before .before .before .before .before .before .before .before .before .before .before .before .before .before .before .before .before .before .pre .1 .0 in
+    let m = masks-are (a .exps .now) (a .start) (a .end) (a .g) (a .l) (a .q) (a .d) (c .before .before .before .before .before .before .before .before .before .before .before .before .before .before .before .bands .result) (c .before .before .before .before .before .before .before .before .before .before .before .before .before .before .before .before .before .band-of .result) (c .before .before .before .before .before .before .before .before .before .before .before .before .before .before .before .before .band-of2 .result) (c .before .before .before .before .before .before .before .before .before .before .before .before .before .masks .result)
+    (c .before .before .before .before .before .before .before .before .before .before .before .before .before .before .before .before .before .band-of .ensures .band) (c .before .before .before .before .before .before .before .before .before .before .before .before .before .before .before .before .band-of2 .ensures .band) (c .before .before .before .before .before .before .before .before .before .before .before .before .before .before .before .bands .ensures) (c .before .before .before .before .before .before .before .before .before .before .before .before .before .masks .ensures)
+    in
+    all-are (a .exps .now) (a .start) (a .end) (a .g) (a .l) (a .q) (a .d) (a .points .now) (a .base) (c .before .before .before .before .before .before .before .before .before .before .before .before .before .masks .result) _ m
+    (written-whole (pointerL (a .points .now) (a .base) (a .exps .now) (c .before .before .before .before .before .before .before .before .before .before .before .before .before .masks .result)) (a .start) (a .end) 256 _ _ _ _ (p .3) (omega (arith, p .0))
+    (c .before .before .before .before .before .before .before .before .before .before .before .clear .ensures) (c .before .before .before .before .before .before .point-bands .ensures) (c .before .before .clear2 .ensures))
+
+pub allocate-some-spec : {M : Type 1} → statement M
+allocate-some-spec =
+    tie.close
+    (tie.spec
+    band-of-requires
+    sub-band-of
+    band-of-requires-2
+    add-last
+    bands-requires
+    masks-requires
+    clear-requires
+    point-bands-requires
+    clear-requires-2
+    same-length
+    returns)

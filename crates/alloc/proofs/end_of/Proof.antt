@@ -1,0 +1,20 @@
+use mathlib.Core.Path.{ap, _∙_}
+use lib.ListN.{getD}
+use borrow.Author.Needs.{needs}
+use Rattle.alloc.proofs.end_of.Statement.{statement}
+use Rattle.alloc.proofs.end_of.Tie as tie
+
+element-copy-out-index : tie.Need-element-copy-out-index
+element-copy-out-index c = search needs
+
+index-requires : tie.Need-index-requires
+index-requires c κs = search needs
+
+returns : tie.Need-returns
+returns c =
+    let a = c .before .before .args in
+    let p = c .before .before .pre in
+    c .index .ensures .0 ∙ ap (λ t. getD t (a .k) 0) (p .0)
+
+pub end-of-spec : {M : Type 1} → statement M
+end-of-spec = tie.close (tie.spec element-copy-out-index index-requires returns)

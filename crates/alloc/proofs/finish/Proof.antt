@@ -1,0 +1,43 @@
+use borrow.Author.Needs.{needs}
+use mathlib.Core.Path.{_≡_}
+use Rattle.alloc.specs.Levels.{maskedL}
+use Rattle.alloc.proofs.finish.Statement.{statement}
+use Rattle.alloc.proofs.finish.Tie as tie
+
+less-requires : tie.Need-less-requires
+less-requires c κs = search needs
+
+add-larger : tie.Need-add-larger
+add-larger c = search needs
+
+hearing-at-requires : tie.Need-hearing-at-requires
+hearing-at-requires c κs = search needs
+
+larger-requires : tie.Need-larger-requires
+larger-requires c κs = search needs
+
+shifted-requires : tie.Need-shifted-requires
+shifted-requires c κs = search needs
+
+stepped-requires : tie.Need-stepped-requires
+stepped-requires c κs = search needs
+
+returns : tie.Need-returns
+returns c =
+    let a = c .before .before .before .before .before .args in
+    let m : c .before .before .larger .result ≡ maskedL (a .e) (a .p) (a .q) (a .b) =
+    rw (← c .before .before .before .before .less .ensures, ← c .before .before .before .hearing-at .ensures .0) (c .before .before .larger .ensures)
+    in
+    rw (← m, ← c .before .shifted .ensures .0) (c .stepped .ensures)
+
+pub finish-spec : {M : Type 1} → statement M
+finish-spec =
+    tie.close
+    (tie.spec
+    less-requires
+    add-larger
+    hearing-at-requires
+    larger-requires
+    shifted-requires
+    stepped-requires
+    returns)

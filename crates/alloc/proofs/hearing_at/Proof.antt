@@ -1,0 +1,42 @@
+use mathlib.Core.Path.{ap, _∙_}
+use native.Mathlib.Omega.{arith}
+use lib.ListN.{getD}
+use Prim.Native.Nat.{_+_, _*_}
+use Rattle.tables.proofs.Limits.{hth-high}
+use borrow.Author.Needs.{needs}
+use Rattle.alloc.proofs.hearing_at.Statement.{statement}
+use Rattle.alloc.proofs.hearing_at.Tie as tie
+
+mul-i : tie.Need-mul-i
+mul-i c = search needs
+
+add-i : tie.Need-add-i
+add-i c = search needs
+
+mul-wide16 : tie.Need-mul-wide16
+mul-wide16 c = search needs
+
+element-copy-out-wide16 : tie.Need-element-copy-out-wide16
+element-copy-out-wide16 c = search needs
+
+wide16-requires : tie.Need-wide16-requires
+wide16-requires c κs = search needs
+
+add-result : tie.Need-add-result
+add-result c =
+    let a = c .before .before .args in
+    let h = hth-high (50 * a .fscod + a .b) in
+    let e = c .wide16 .ensures ∙ ap (λ t. getD t (50 * a .fscod + a .b) 0) (c .before .before .pre .0) in
+    omega arith
+
+returns : tie.Need-returns
+returns c =
+    let a = c .before .before .args in
+    let h = hth-high (50 * a .fscod + a .b) in
+    let e = c .wide16 .ensures ∙ ap (λ t. getD t (50 * a .fscod + a .b) 0) (c .before .before .pre .0) in
+    omega arith
+
+pub hearing-at-spec : {M : Type 1} → statement M
+hearing-at-spec =
+    tie.close
+    (tie.spec mul-i add-i mul-wide16 element-copy-out-wide16 wide16-requires add-result returns)

@@ -1,0 +1,45 @@
+use mathlib.Core.Path.{ap, _∙_}
+use native.Mathlib.Omega.{arith}
+use lib.ListN.{getD}
+use Prim.Native.Nat.{_≤_}
+use native.Mathlib.Nat.{min-eq-left, min-eq-right}
+use Rattle.tables.proofs.Neighbours.{latab-high}
+use borrow.Author.Needs.{needs}
+use Rattle.alloc.proofs.log_at.Statement.{statement}
+use Rattle.alloc.proofs.log_at.Tie as tie
+
+element-copy-out-wide : tie.Need-element-copy-out-wide
+element-copy-out-wide c = search needs
+
+wide-requires : tie.Need-wide-requires
+wide-requires c κs = search needs
+
+element-copy-out-wide-2 : tie.Need-element-copy-out-wide-2
+element-copy-out-wide-2 c = search needs
+
+wide-requires-2 : tie.Need-wide-requires-2
+wide-requires-2 c κs = search needs
+
+returns : tie.Need-returns
+returns c =
+    let a = c .before .before .before .args in
+    let h : a .h ≤ 255 = omega arith in
+    let e = c .wide .ensures ∙ ap (λ t. getD t (a .h) 0) (c .before .before .before .pre) in
+    (rw (min-eq-left h) e, rw e (latab-high (a .h)))
+
+returns-2 : tie.Need-returns-2
+returns-2 c =
+    let h : 255 ≤ c .before .before .before .args .h = omega arith in
+    let e = c .wide2 .ensures ∙ ap (λ t. getD t 255 0) (c .before .before .before .pre) in
+    (rw (min-eq-right h) e, rw e (latab-high 255))
+
+pub log-at-spec : {M : Type 1} → statement M
+log-at-spec =
+    tie.close
+    (tie.spec
+    element-copy-out-wide
+    wide-requires
+    element-copy-out-wide-2
+    wide-requires-2
+    returns
+    returns-2)

@@ -1,0 +1,3 @@
+pub mod Allocation
+pub mod Levels
+pub mod Premises

@@ -1,0 +1,5 @@
+pub mod Bins
+pub mod Edges
+pub mod Limits
+pub mod Neighbours
+pub mod Rule

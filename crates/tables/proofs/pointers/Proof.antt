@@ -1,0 +1,11 @@
+use mathlib.Core.Path.{refl}
+use Rattle.tables.specs.BitAllocation.{baptab, hebaptab}
+use Rattle.tables.proofs.pointers.Statement.{statement}
+use Rattle.tables.proofs.pointers.Tie as tie
+
+returns : tie.Need-returns
+unfolding baptab hebaptab
+returns c = refl
+
+pub pointers-spec : {M : Type 1} → statement M
+pointers-spec = tie.close (tie.spec returns)

@@ -1,0 +1,3 @@
+pub mod BitAllocation
+pub mod Bands
+pub mod Small
