@@ -1,0 +1,9 @@
+pub mod ExpLaws
+pub mod Unmet
+pub mod BitTables
+pub mod SkimLaws
+pub mod MantissaLaws
+pub mod HybridLaws
+pub mod VisitLaws
+pub mod StateLaws
+pub mod Edges

@@ -1,0 +1,23 @@
+use native.Mathlib.Omega.{arith}
+use borrow.Author.Tests.{lt-ltb, le-ltb}
+use Rattle.blocks.specs.Hybrid.{activeOf}
+use borrow.Author.Needs.{needs}
+use Rattle.blocks.proofs.hybrid.active.Statement.{statement}
+use Rattle.blocks.proofs.hybrid.active.Tie as tie
+use Rattle.blocks.proofs.hybrid.active.Reads as reads
+use Rattle.blocks.proofs.hybrid.active.Lts as lts
+
+returns : tie.Need-returns
+unfolding activeOf
+returns c = rw (le-ltb 7 (c .before .args .hebap) (omega arith))
+
+returns-2 : tie.Need-returns-2
+unfolding activeOf
+returns-2 c = rw (lt-ltb 7 _ (c .before .if1 .left), lt-ltb _ 2 (c .if2 .taken))
+
+returns-3 : tie.Need-returns-3
+unfolding activeOf
+returns-3 c = rw (lt-ltb 7 _ (c .before .if1 .left), le-ltb _ 2 (c .if2 .left))
+
+pub active-spec : {M : Type 1} → statement M
+active-spec = tie.close (tie.spec returns returns-2 returns-3)

@@ -1,0 +1,9 @@
+pub mod Exponents
+pub mod Held
+pub mod Mantissas
+pub mod Hybrid
+pub mod Told
+pub mod Plan
+pub mod Taken
+pub mod State
+pub mod Coded

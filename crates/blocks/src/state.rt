@@ -1,0 +1,354 @@
+// The state of bit allocation, and the pointers of a block (A/52 clause 7.2.2.1, TS 102 366 clause 6.2.2.1).
+use crate::exponents::CPL;
+use crate::exponents::LFE;
+use crate::plan::Range;
+use crate::plan::Shape;
+use crate::plan::hybrid;
+use crate::plan::range_at;
+use crate::plan::requested;
+use alloc::Channel;
+use alloc::Deltas;
+use alloc::Leak;
+use alloc::Params;
+use alloc::Pointers;
+ghost use mathlib.Core.Path.{_≡_};
+ghost use mathlib.Core.Bool.{_&&_, _||_, not, cond};
+ghost use mathlib.Core.List.{_++_};
+ghost use Prim.Native.Nat.{ℕ, _+_, _*_, _-_, _<_, _≤_, min};
+ghost use lib.Dec.{eqb};
+ghost use lib.ListN.{length, getD, take, drop};
+ghost use Rattle.alloc.specs.Allocation.{allocation, fastOf, slowOf};
+ghost use Rattle.alloc.specs.Premises.{Lent, Exponents, Tuned, Channelled};
+ghost use Rattle.blocks.specs.Plan.{requestedOf, rangeOf};
+ghost use Rattle.blocks.specs.Held.{Held};
+ghost use Rattle.blocks.specs.State.{freshState, deltaCodeOf, eightOf, segmentsOf, quietOf, silentOf, channelOf, leakFor, kindOf, paramsFor, expsIn, pointedOf, pointersOf, pointSlots, allocated, allocatedOf};
+ghost use Rattle.blocks.specs.Coded.{Coded, quietened};
+
+// The codes of the parameters.
+pub struct Codes {
+    pub sdcycod: u8,
+    pub fdcycod: u8,
+    pub sgaincod: u8,
+    pub dbpbcod: u8,
+    pub floorcod: u8,
+}
+
+pub enum Parameters {
+    NeverSent,
+    Sent(Codes),
+}
+
+// What bit allocation carries from block to block, by slot where it is an array.
+pub struct AllocState {
+    pub parameters: Parameters,
+    pub csnroffst: u8,
+    pub fsnroffst: [u8; 7],
+    pub fgaincod: [u8; 7],
+    pub cplfleak: u8,
+    pub cplsleak: u8,
+}
+
+// The delta segments of the slots 0 to 5: their number, and eight of each slot at 8 * slot.
+pub struct Segments {
+    pub n: [u8; 6],
+    pub offset: [u8; 48],
+    pub len: [u8; 48],
+    pub ba: [u8; 48],
+}
+
+// What a delta code asks for.
+pub enum DeltaCode {
+    Refused(u8),
+    Keep,
+    New,
+    Clear,
+}
+
+impl AllocState {
+    // The state at the start of a frame.
+    pub fn fresh() -> AllocState
+        ensures { λ r. ⌜ r ≡ freshState ⌝ }
+    {
+        AllocState {
+            parameters: Parameters::NeverSent,
+            csnroffst: 0,
+            fsnroffst: [0, 0, 0, 0, 0, 0, 0],
+            fgaincod: [0, 0, 0, 0, 0, 0, 0],
+            cplfleak: 0,
+            cplsleak: 0,
+        }
+    }
+}
+
+// 28 for code 0 in block 0, 12 for code 3.
+pub fn delta_code(code: u8, block0: bool) -> DeltaCode
+    ensures { λ r. ⌜ r ≡ deltaCodeOf code block0 ⌝ }
+{
+    if code == 0 {
+        if block0 {
+            return DeltaCode::Refused(28);
+        }
+        return DeltaCode::Keep;
+    }
+    if code == 1 {
+        return DeltaCode::New;
+    }
+    if code == 2 {
+        return DeltaCode::Clear;
+    }
+    DeltaCode::Refused(12)
+}
+
+fn least(a: usize, b: usize) -> usize
+    ensures { λ r. ⌜ r ≡ min a b ⌝ }
+{
+    if a < b { a } else { b }
+}
+
+fn index(x: u8) -> usize
+    ensures { λ r. ⌜ r ≡ x ⌝ }
+{
+    x as usize
+}
+
+fn eight(xs: [u8; 48], slot: u8) -> [u8; 8]
+    requires { ⌜ slot < 6 ⌝ }
+    ensures { λ r. ⌜ r ≡ eightOf xs (8 * slot) ⌝ }
+{
+    let k = 8 * (slot as usize);
+    [
+        xs[k],
+        xs[k + 1],
+        xs[k + 2],
+        xs[k + 3],
+        xs[k + 4],
+        xs[k + 5],
+        xs[k + 6],
+        xs[k + 7],
+    ]
+}
+
+// The segments of a slot; the LFE channel has none.
+fn segments_of(d: Segments, slot: u8) -> Deltas
+    ensures { λ r. ⌜ (r ≡ segmentsOf d slot) × (r .n ≤ 8) ⌝ }
+{
+    if slot < LFE {
+        let i = slot as usize;
+        let n = least(index(d.n[i]), 8);
+        let o = d.offset;
+        let l = d.len;
+        let b = d.ba;
+        let offset = eight(o, slot);
+        let len = eight(l, slot);
+        let ba = eight(b, slot);
+        return Deltas {
+            n: n,
+            offset: offset,
+            len: len,
+            ba: ba,
+        };
+    }
+    let none = [0u8; 8];
+    Deltas {
+        n: 0,
+        offset: none,
+        len: none,
+        ba: none,
+    }
+}
+
+fn quiet(asked: bool, fsnroffst: u8) -> bool
+    ensures { λ r. ⌜ r ≡ not asked || eqb fsnroffst 0 ⌝ }
+{
+    !asked || fsnroffst == 0
+}
+
+fn both(a: bool, b: bool) -> bool
+    ensures { λ r. ⌜ r ≡ a && b ⌝ }
+{
+    a && b
+}
+
+// Whether the coarse offset and the fine offsets of all slots that are asked for are 0.
+fn silent(st: AllocState, shape: Shape) -> bool
+    ensures { λ r. ⌜ r ≡ silentOf st shape ⌝ }
+{
+    let mut all = st.csnroffst == 0;
+    let mut slot: u8 = 0;
+    while slot < 7 {
+        let i = slot as usize;
+        all = both(all, quiet(requested(shape, slot), st.fsnroffst[i]));
+        slot += 1;
+    }
+    all
+}
+
+// The parameters of a slot's allocation; of none of its bins where the block is silent.
+fn channel(st: AllocState, shape: Shape, slot: u8, hushed: bool) -> Channel
+    requires { ⌜ slot < 7 ⌝ }
+    ensures { λ r. ⌜ (r ≡ quietened hushed (channelOf st shape slot)) × (r .end ≤ 253) × (r .fgain ≤ 1024) ⌝ }
+{
+    let i = slot as usize;
+    let r = range_at(shape, slot);
+    let fgain = tables::fast_gain(st.fgaincod[i]);
+    if hushed {
+        return Channel {
+            start: 0,
+            end: 0,
+            fgain: fgain,
+            csnroffst: st.csnroffst,
+            fsnroffst: st.fsnroffst[i],
+        };
+    }
+    Channel {
+        start: r.start as usize,
+        end: r.end as usize,
+        fgain: fgain,
+        csnroffst: st.csnroffst,
+        fsnroffst: st.fsnroffst[i],
+    }
+}
+
+fn leak_for(st: AllocState, slot: u8) -> Leak
+    requires { ⌜ (st .cplfleak < 8) × (st .cplsleak < 8) ⌝ }
+    ensures { λ r. ⌜ (r ≡ leakFor st slot) × (fastOf r ≤ 2560) × (slowOf r ≤ 2560) ⌝ }
+{
+    if slot == CPL {
+        return alloc::leak_of(st.cplfleak, st.cplsleak);
+    }
+    Leak::Absent
+}
+
+fn kind_of(shape: Shape, slot: u8) -> Pointers
+    requires { ⌜ slot < 7 ⌝ }
+    ensures { λ r. ⌜ r ≡ kindOf shape slot ⌝ }
+{
+    if hybrid(shape, slot) {
+        return Pointers::Hebap;
+    }
+    Pointers::Bap
+}
+
+// The exponents of a slot.
+fn exps_in(bins: &[u8], slot: usize) -> [u8; 256]
+    requires { ⌜ 256 * slot + 256 ≤ length (now bins) ⌝ }
+    ensures { λ r. ⌜ r ≡ expsIn (now (bins .entry)) slot ⌝ }
+{
+    let base = 256 * slot;
+    let mut out = [0u8; 256];
+    let mut i: usize = 0;
+    while i < 256 {
+        let k = base + i;
+        out[i] = bins[k];
+        i += 1;
+    }
+    out
+}
+
+// The pointers of a slot, where they are asked for.
+fn point(
+    latab: &[u8; 256],
+    masktab: &[u8; 253],
+    ends: &[u8; 50],
+    hth: &[u16; 150],
+    points: &[u8; 128],
+    bins: &mut [u8],
+    asked: bool,
+    slot: usize,
+    c: Channel,
+    p: Params,
+    l: Leak,
+    d: Deltas,
+    kind: Pointers,
+)
+    requires { ⌜ Lent (now latab) (now masktab) (now ends) (now hth) (now points) ⌝ }
+    requires { ⌜ (Held (now bins)) × (slot < 7) ⌝ }
+    requires { ⌜ (Channelled c l d) × Tuned p ⌝ }
+    ensures { λ r. ⌜ now (bins .exit) ≡ cond asked (pointedOf (now (bins .entry)) slot (allocation kind (expsIn (now (bins .entry)) slot) c p l d)) (now (bins .entry)) ⌝ }
+{
+    if !asked {
+        return;
+    }
+    let exps = exps_in(bins, slot);
+    let a = 1792 + 256 * slot;
+    let e = a + 256;
+    alloc::allocate(
+        latab,
+        masktab,
+        ends,
+        hth,
+        points,
+        &exps,
+        &mut bins[a..e],
+        c,
+        p,
+        l,
+        d,
+        kind,
+    );
+}
+
+// The pointers of all slots that are asked for. The tables are made once.
+fn point_slots(st: AllocState, q: Codes, fscod: u8, shape: Shape, d: Segments, bins: &mut [u8])
+    requires { ⌜ (Held (now bins)) × (Coded st fscod) ⌝ }
+    ensures { λ r. ⌜ now (bins .exit) ≡ pointSlots st (paramsFor q fscod) shape d (now (bins .entry)) 0 7 ⌝ }
+{
+    let latab = tables::log_add();
+    let masktab = tables::masktab();
+    let ends = tables::band_end();
+    let hth = tables::hearing();
+    let points = tables::pointers();
+    let p = alloc::params_of(
+        q.sdcycod,
+        q.fdcycod,
+        q.sgaincod,
+        q.dbpbcod,
+        q.floorcod,
+        fscod as usize,
+    );
+    let hushed = silent(st, shape);
+    let mut slot: u8 = 0;
+    while slot < 7 {
+        let asked = requested(shape, slot);
+        let c = channel(st, shape, slot, hushed);
+        let l = leak_for(st, slot);
+        let s = segments_of(d, slot);
+        let k = kind_of(shape, slot);
+        point(
+            &latab,
+            &masktab,
+            &ends,
+            &hth,
+            &points,
+            bins,
+            asked,
+            slot as usize,
+            c,
+            p,
+            l,
+            s,
+            k,
+        );
+        slot += 1;
+    }
+}
+
+// The pointers of a block: those of the slots that are asked for, the others as they are. 0, or refusal 29
+// where no parameters were ever sent, also where the block is silent.
+pub fn allocate_block(
+    st: AllocState,
+    fscod: u8,
+    shape: Shape,
+    d: Segments,
+    bins: &mut [u8; 3584],
+) -> u8
+    requires { ⌜ (Held (now bins)) × (Coded st fscod) ⌝ }
+    ensures { λ r. ⌜ allocated r (now (bins .exit)) ≡ allocatedOf st fscod shape d (now (bins .entry)) ⌝ }
+{
+    let parameters = st.parameters;
+    let Parameters::Sent(q) = parameters else {
+        return 29;
+    };
+    point_slots(st, q, fscod, shape, d, bins);
+    0
+}

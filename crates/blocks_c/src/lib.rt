@@ -1,0 +1,233 @@
+// `blocks` for a driver outside: the comparison with the reference.
+use bits::BitPlace;
+use blocks::exponents::Group;
+use blocks::mantissas::Groups;
+use blocks::plan::Shape;
+use blocks::state::AllocState;
+use blocks::state::Codes;
+use blocks::state::Parameters;
+use blocks::state::Segments;
+ghost use mathlib.Core.Path.{_≡_};
+ghost use Prim.Native.Nat.{_+_, _*_, _-_, _<_, _≤_};
+ghost use lib.ListN.{length};
+ghost use Rattle.reading.specs.Run.{skim};
+ghost use Rattle.blocks.specs.Exponents.{decodeOf, sizeOf, groupsOf, startOf, firstOf, putOf, laidOf};
+ghost use Rattle.blocks.specs.Mantissas.{conventionalOf};
+ghost use Rattle.blocks.specs.Hybrid.{ahtOf};
+ghost use Rattle.blocks.specs.Held.{Held};
+ghost use Rattle.blocks.specs.State.{allocated, allocatedOf};
+ghost use Rattle.blocks_c.specs.Packed.{packedGroup, packed, PassedTold, TagsTold};
+ghost use Rattle.blocks_c.specs.Flat.{sentOf, stateOf, shapeOf, flatSegments};
+
+#[no_mangle]
+pub extern "C" fn blocks_groups(slot: u8, strategy: u8, start: u16, end: u16) -> u16
+    ensures { λ r. ⌜ r ≡ groupsOf slot strategy start end ⌝ }
+{
+    blocks::exponents::groups(slot, strategy, start, end)
+}
+
+#[no_mangle]
+pub extern "C" fn blocks_start(slot: u8, absexp: u8) -> u8
+    requires { ⌜ absexp ≤ 15 ⌝ }
+    ensures { λ r. ⌜ r ≡ startOf slot absexp ⌝ }
+{
+    blocks::exponents::start_of(slot, absexp)
+}
+
+#[no_mangle]
+pub extern "C" fn blocks_first(slot: u8, start: u16) -> u16
+    ensures { λ r. ⌜ r ≡ firstOf slot start ⌝ }
+{
+    blocks::exponents::first_of(slot, start)
+}
+
+#[no_mangle]
+pub extern "C" fn blocks_put(bins: &mut [u8; 3584], slot: u8, bin: u32, e: u8)
+    requires { ⌜ length (now bins) ≡ 3584 ⌝ }
+    ensures { λ r. ⌜ now (bins .exit) ≡ putOf (now (bins .entry)) slot bin e ⌝ }
+{
+    blocks::exponents::put(bins, slot, bin, e);
+}
+
+#[no_mangle]
+pub extern "C" fn blocks_lay(
+    bins: &mut [u8; 3584],
+    slot: u8,
+    strategy: u8,
+    bin: u16,
+    a: u8,
+    b: u8,
+    c: u8,
+)
+    requires { ⌜ length (now bins) ≡ 3584 ⌝ }
+    ensures { λ r. ⌜ now (bins .exit) ≡ laidOf (now (bins .entry)) slot (sizeOf strategy) bin a b c ⌝ }
+{
+    blocks::exponents::lay(bins, slot, strategy, bin, a, b, c);
+}
+
+fn wide(x: u8) -> u32
+    ensures { λ r. ⌜ (r ≡ x) × (r < 256) ⌝ }
+{
+    x as u32
+}
+
+#[no_mangle]
+pub extern "C" fn blocks_decode(prev: u8, group: u8) -> u32
+    ensures { λ r. ⌜ r ≡ packedGroup (decodeOf prev group) ⌝ }
+{
+    let g = blocks::exponents::decode(prev, group);
+    match g {
+        Group::Refused(n) => 16777216 * wide(n),
+        Group::Moved(a, b, c) => wide(a) + 256 * wide(b) + 65536 * wide(c),
+    }
+}
+
+fn pack(number: u8, place: u16, x: u16, y: u8, z: u8) -> u64
+    ensures { λ r. ⌜ r ≡ packed number place x y z ⌝ }
+{
+    number as u64
+        + 256 * (place as u64)
+        + 16777216 * (x as u64)
+        + 4294967296 * (y as u64)
+        + 1099511627776 * (z as u64)
+}
+
+fn eight(refused: bool) -> u8 {
+    if refused { 8 } else { 0 }
+}
+
+// The three counts come in and go out.
+#[no_mangle]
+pub extern "C" fn blocks_conventional(
+    bins: &[u8; 3584],
+    slot: u8,
+    start: u16,
+    end: u16,
+    g1: u8,
+    g2: u8,
+    g4: u8,
+    at: u16,
+    limit: u16,
+) -> u64
+    requires { ⌜ (length (now bins) ≡ 3584) × (slot < 7) × (end ≤ 256) ⌝ }
+    ensures { λ r. ⌜ PassedTold r (λ s. skim (conventionalOf (now (bins .entry)) slot start (end - start) (record { g1 = g1; g2 = g2; g4 = g4 })) s at limit) ⌝ }
+{
+    let p = blocks::mantissas::conventional(
+        bins,
+        slot,
+        start,
+        end,
+        Groups {
+            g1: g1,
+            g2: g2,
+            g4: g4,
+        },
+        BitPlace(at),
+        BitPlace(limit),
+    );
+    let g = p.groups;
+    let place = p.place;
+    pack(eight(p.refused), place.0, g.g1 as u16, g.g2, g.g4)
+}
+
+#[no_mangle]
+pub extern "C" fn blocks_aht(
+    src: &[u8],
+    bins: &[u8; 3584],
+    slot: u8,
+    start: u16,
+    end: u16,
+    at: u16,
+    limit: u16,
+) -> u64
+    requires { ⌜ (length (now bins) ≡ 3584) × (slot < 7) × (end ≤ 256) × (limit ≤ 8 * length (now src)) ⌝ }
+    ensures { λ r. ⌜ TagsTold r (skim (ahtOf (now (bins .entry)) slot start (end - start)) (now (src .entry)) at limit) ⌝ }
+{
+    let t = blocks::hybrid::aht(src, bins, slot, start, end, at, limit);
+    pack(t.number, t.place, t.tags, 0, 0)
+}
+
+fn sent_of(sent: bool, codes: [u8; 5]) -> Parameters
+    ensures { λ r. ⌜ r ≡ sentOf sent codes ⌝ }
+{
+    if sent {
+        return Parameters::Sent(Codes {
+            sdcycod: codes[0],
+            fdcycod: codes[1],
+            sgaincod: codes[2],
+            dbpbcod: codes[3],
+            floorcod: codes[4],
+        });
+    }
+    Parameters::NeverSent
+}
+
+// The arrays come in lent, one for each.
+#[no_mangle]
+pub extern "C" fn blocks_allocate(
+    sent: bool,
+    codes: &[u8; 5],
+    csnroffst: u8,
+    fsnroffst: &[u8; 7],
+    fgaincod: &[u8; 7],
+    cplfleak: u8,
+    cplsleak: u8,
+    fscod: u8,
+    nfchans: u8,
+    lfeon: bool,
+    cplinu: bool,
+    ahtinu: &[bool; 7],
+    ahtread: &[bool; 7],
+    endmant: &[u16; 5],
+    cplstrt: u16,
+    cplend: u16,
+    n: &[u8; 6],
+    offset: &[u8; 48],
+    len: &[u8; 48],
+    ba: &[u8; 48],
+    bins: &mut [u8; 3584],
+) -> u8
+    requires { ⌜ (Held (now bins)) × (cplfleak < 8) × (cplsleak < 8) × (fscod < 3) ⌝ }
+    ensures { λ r. ⌜ allocated r (now (bins .exit))
+        ≡ allocatedOf (stateOf (sentOf sent (now (codes .entry))) csnroffst (now (fsnroffst .entry)) (now (fgaincod .entry)) cplfleak cplsleak) fscod
+        (shapeOf nfchans lfeon cplinu (now (ahtinu .entry)) (now (ahtread .entry)) (now (endmant .entry)) cplstrt cplend)
+        (flatSegments (now (n .entry)) (now (offset .entry)) (now (len .entry)) (now (ba .entry))) (now (bins .entry)) ⌝ }
+{
+    let c = *codes;
+    let f = *fsnroffst;
+    let g = *fgaincod;
+    let a = *ahtinu;
+    let b = *ahtread;
+    let e = *endmant;
+    let sn = *n;
+    let so = *offset;
+    let sl = *len;
+    let sb = *ba;
+    let none = [false; 5];
+    let st = AllocState {
+        parameters: sent_of(sent, c),
+        csnroffst: csnroffst,
+        fsnroffst: f,
+        fgaincod: g,
+        cplfleak: cplfleak,
+        cplsleak: cplsleak,
+    };
+    let shape = Shape {
+        nfchans: nfchans,
+        lfeon: lfeon,
+        cplinu: cplinu,
+        chincpl: none,
+        ahtinu: a,
+        ahtread: b,
+        endmant: e,
+        cplstrt: cplstrt,
+        cplend: cplend,
+    };
+    let d = Segments {
+        n: sn,
+        offset: so,
+        len: sl,
+        ba: sb,
+    };
+    blocks::state::allocate_block(st, fscod, shape, d, bins)
+}
