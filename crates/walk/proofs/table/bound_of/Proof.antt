@@ -1,0 +1,18 @@
+use Rattle.walk.specs.Rows.{boundOf}
+use borrow.Author.Tests.{eq-eqb, ne-eqb, lt-ltb, le-ltb}
+use borrow.Author.Needs.{needs}
+use Rattle.walk.proofs.table.bound_of.Statement.{statement}
+use Rattle.walk.proofs.table.bound_of.Tie as tie
+use Rattle.walk.proofs.table.bound_of.Reads as reads
+use Rattle.walk.proofs.table.bound_of.Lts as lts
+
+returns : tie.Need-returns
+unfolding boundOf
+returns c = rw (eq-eqb _ _ (c .if1 .taken))
+
+returns-2 : tie.Need-returns-2
+unfolding boundOf
+returns-2 c = rw (ne-eqb _ _ (c .if1 .left))
+
+pub bound-of-spec : {M : Type 1} → statement M
+bound-of-spec = tie.close (tie.spec returns returns-2)

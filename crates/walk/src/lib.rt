@@ -1,0 +1,166 @@
+// A bitstream syntax, run by a lent table of rows.
+pub mod acts;
+mod allocating;
+pub mod cells;
+pub mod inputs;
+pub mod notation;
+mod shapes;
+pub mod steps;
+pub mod table;
+
+ghost use mathlib.Core.Path.{_≡_};
+ghost use mathlib.Core.Bool.{cond};
+ghost use Prim.Native.Nat.{_+_, _<_};
+ghost use Rattle.reading.specs.Room.{room};
+ghost use Rattle.walk.specs.Cells.{state};
+ghost use Rattle.walk.specs.Stands.{Stand, Ran, Turned};
+use bits::BitPlace;
+use cells::put;
+use inputs::halted;
+use inputs::take;
+use steps::Next;
+use steps::step;
+use syntax::Cursor;
+
+// Where the rows go on: at `next`, or nowhere after a refusal.
+fn onward(stopped: bool, next: usize, to: usize) -> usize
+    ensures { λ r. ⌜ r ≡ cond stopped to next ⌝ }
+{
+    if stopped { to } else { next }
+}
+
+// The rows of the table from `from` to `to`.
+pub fn rows(
+    src: &[u8],
+    names: &mut [u8],
+    blocks: &mut [i8],
+    indexes: &mut [i16],
+    firsts: &mut [u16],
+    widths: &mut [u16],
+    values: &mut [u32],
+    table: &[u64; 640],
+    cells: &mut [u16; 640],
+    bins: &mut [u8; 3584],
+    cur: Cursor,
+    limit: BitPlace,
+    from: usize,
+    to: usize,
+) -> Cursor
+    requires { ⌜ Stand (now src) (limit .0) (now table) (now bins) cur from to ⌝ }
+    ensures { λ r. ⌜ Ran (now (src .entry)) (limit .0) (now (table .entry)) from to cur (state (now (cells .entry)) (now (bins .entry))) (room (now (names .entry)) (now (blocks .entry)) (now (indexes .entry)) (now (firsts .entry)) (now (widths .entry)) (now (values .entry)))
+        r (state (now (cells .exit)) (now (bins .exit))) (room (now (names .exit)) (now (blocks .exit)) (now (indexes .exit)) (now (firsts .exit)) (now (widths .exit)) (now (values .exit))) ⌝ }
+{
+    let mut c = cur;
+    let mut pc = from;
+    while pc < to {
+        let word = table[pc];
+        pc += 1;
+        match step(word, cells, bins, c.at) {
+            Next::Go(skip) => {
+                pc += skip as usize;
+            }
+            Next::Stop(number) => {
+                c = halted(c.at, c.count, number);
+                pc = to;
+            }
+            Next::Take(ask) => {
+                c = take(
+                    src,
+                    names,
+                    blocks,
+                    indexes,
+                    firsts,
+                    widths,
+                    values,
+                    cells,
+                    bins,
+                    c.at,
+                    c.count,
+                    limit,
+                    ask,
+                );
+                pc = onward(c.stopped, pc, to);
+            }
+            Next::Loop(i, n, counter, rows) => {
+                let end = pc + rows as usize;
+                c = each(
+                    src,
+                    names,
+                    blocks,
+                    indexes,
+                    firsts,
+                    widths,
+                    values,
+                    table,
+                    cells,
+                    bins,
+                    c,
+                    limit,
+                    pc,
+                    end,
+                    i,
+                    n,
+                    counter,
+                );
+                pc = onward(c.stopped, end, to);
+            }
+        }
+    }
+    c
+}
+
+// The rows from `from` to `to`, once for each number from i up to n, which stands in a cell meanwhile.
+fn each(
+    src: &[u8],
+    names: &mut [u8],
+    blocks: &mut [i8],
+    indexes: &mut [i16],
+    firsts: &mut [u16],
+    widths: &mut [u16],
+    values: &mut [u32],
+    table: &[u64; 640],
+    cells: &mut [u16; 640],
+    bins: &mut [u8; 3584],
+    cur: Cursor,
+    limit: BitPlace,
+    from: usize,
+    to: usize,
+    i: u32,
+    n: u32,
+    counter: u8,
+) -> Cursor
+    requires { ⌜ Stand (now src) (limit .0) (now table) (now bins) cur from to ⌝ }
+    ensures { λ r. ⌜ Turned (now (src .entry)) (limit .0) (now (table .entry)) from to i n counter cur (state (now (cells .entry)) (now (bins .entry))) (room (now (names .entry)) (now (blocks .entry)) (now (indexes .entry)) (now (firsts .entry)) (now (widths .entry)) (now (values .entry)))
+        r (state (now (cells .exit)) (now (bins .exit))) (room (now (names .exit)) (now (blocks .exit)) (now (indexes .exit)) (now (firsts .exit)) (now (widths .exit)) (now (values .exit))) ⌝ }
+{
+    let mut c = cur;
+    let mut j = i;
+    while j < n {
+        put(cells, counter as usize, j);
+        c = rows(
+            src,
+            names,
+            blocks,
+            indexes,
+            firsts,
+            widths,
+            values,
+            table,
+            cells,
+            bins,
+            c,
+            limit,
+            from,
+            to,
+        );
+        j = turn(c.stopped, j, n);
+    }
+    c
+}
+
+fn turn(stopped: bool, j: u32, n: u32) -> u32
+    requires { ⌜ j < n ⌝ }
+    ensures { λ r. ⌜ r ≡ cond stopped n (j + 1) ⌝ }
+{
+    if stopped { n } else { j + 1 }
+}
