@@ -1,0 +1,24 @@
+-- The definitions give what every row of the table of edges says. Computed; assumes nothing.
+use mathlib.Core.Path.{_≡_, refl}
+use mathlib.Core.List.{map}
+use Rattle.bits.specs.Bits.{bitAt, bitsAt}
+use Rattle.reading.specs.Tree.{_>>=_}
+use Rattle.reading.specs.Run.{after, run}
+use Rattle.reading.specs.Frame.{framed, sized, parse}
+use Rattle.tables.specs.BitAllocation.{bndend}
+use Rattle.tables.specs.Bands.{bandOf}
+use Rattle.alloc.specs.Allocation.{snroffset}
+use Rattle.walk.specs.Acts.{powersBelow, blkstrtinfoBits}
+use Rattle.walk.specs.Cells.{cellOf, putIn}
+use Rattle.walk.specs.Syntax.{turns, item, meaning}
+use Rattle.eac3.specs.Audblk.{cpl-strategy, bandwidth}
+use Rattle.eac3.specs.Blocks.{_⧺_}
+use Rattle.eac3.specs.Syncinfo.{syncinfo}
+use Rattle.eac3.specs.Bsi.{bsi-head, bsi}
+use Rattle.eac3.specs.Annex.{header, body}
+use Rattle.eac3.specs.Frame.{start, eac3}
+use Rattle.eac3.specs.Edges.{Edge, edges}
+
+pub edges-hold : map (λ (e : Edge). e .gives) edges ≡ map (λ (e : Edge). e .is) edges
+unfolding bitAt bitsAt _>>=_ after run framed sized parse bndend bandOf snroffset powersBelow blkstrtinfoBits cellOf putIn turns item meaning _⧺_ syncinfo bsi-head bsi cpl-strategy bandwidth header body start eac3 edges
+edges-hold = refl

@@ -1,0 +1,4 @@
+pub mod Halves
+pub mod Gives
+pub mod Header
+pub mod Edges

@@ -1,0 +1,28 @@
+-- The syntax of an E-AC-3 syncframe (A/52 Annex E, TS 102 366 Annex E): the header, and the body after it. The tail is that of every frame.
+use Rattle.walk.specs.Syntax.{Block, end, _⨾_, when, each, put, cell, no, from}
+use Rattle.walk.specs.CellNames.{BLOCK, NUMBLKS}
+use Rattle.walk.specs.declared.table.Cond.the-variants.{Over}
+use Rattle.walk.specs.declared.table.Count.the-variants.{Fixed}
+use Rattle.walk.specs.declared.table.Value.the-variants.{Here, Let}
+use Rattle.eac3.specs.Blocks.{_⧺_}
+use Rattle.eac3.specs.Cells.{BLK, AUDIO-END}
+use Rattle.eac3.specs.Syncinfo.{syncinfo}
+use Rattle.eac3.specs.Bsi.{bsi}
+use Rattle.eac3.specs.Audfrm.{audfrm}
+use Rattle.eac3.specs.Audblk.{audblk}
+
+unfoldable pub header : Block
+header = syncinfo
+
+-- each of the six blocks that the frame has
+unfoldable pub audblks : Block
+audblks =
+    each BLK (from 0) (Fixed 6)
+    (when (Over (cell NUMBLKS) (cell BLK)) audblk
+    ⨾ end)
+    ⨾ put (cell BLOCK) (Let 0 0 no)
+    ⨾ put (cell AUDIO-END) Here
+    ⨾ end
+
+unfoldable pub body : Block
+body = bsi ⧺ audfrm ⧺ audblks

@@ -1,0 +1,189 @@
+-- E.1.2.3 audfrm. Each element with its name, index, width in bits, and the cell that keeps its value for what steers the rest.
+use Prim.Native.Nat.{_+_, _-_}
+use Rattle.names.specs.Names.{ahte, bamode, blkstrtinfo, blkstrtinfoe, blkswe, chahtinu, chexpstr, chinspxatten, chintransproc, convexpstr, convexpstre, cplahtinu, cplexpstr, cplinu, cplstre, dbaflde, dithflage, expstre, frmchexpstr, frmcplexpstr, frmcsnroffst, frmfgaincode, frmfsnroffst, lfeahtinu, lfeexpstr, skipflde, snroffststr, spxattencod, spxattene, transproce, transproclen, transprocloc}
+use Rattle.walk.specs.Syntax.{Block, end, _⨾_, element, span, when, reject, each, put, act, cell, at, at2, no, none, nth, by, from}
+use Rattle.walk.specs.CellNames.{AHTINU, CSNROFFST, EXPSTR, FRMEXPSTR, FSNROFFST, LFEON, NFCHANS, NUMBLKS, SLOT, WIDTH}
+use Rattle.eac3.specs.ActNumbers.{BLKSTRTINFO, FRAME-EXPSTR, FRESH}
+use Rattle.walk.specs.declared.table.Cond.the-variants.{Is, Not, Above}
+use Rattle.walk.specs.declared.table.Count.the-variants.{Fixed, Held}
+use Rattle.walk.specs.declared.table.Value.the-variants.{Let}
+use Rattle.eac3.specs.Cells.{ACMOD, AHTE, BAMODE, BLK, BLKSTRTINFOE, BLKSWE, CH, CHEXPSTR, CHINSPXATTEN, CHINTRANSPROC, CONVEXPSTRE, CPLEXPSTR, CPLINUS, CPLSTRE, DBAFLDE, DITHFLAGE, EXPSTRE, FRMFGAINCODE, FRMFSNROFFST, LFEEXPSTR, NCHREGS, NCPLBLKS, NCPLREGS, NLFEREGS, NUMBLKSCOD, SKIPFLDE, SNROFFSTSTR, SPXATTENE, STRMTYP, TRANSPROCE}
+use Rattle.eac3.specs.Blocks.{_⧺_}
+
+-- the flags of the frame, and the use of coupling block by block. ncplblks: E.2.4.2
+unfoldable pub flags : Block
+flags =
+    act FRESH 0
+    ⨾ when (Is (cell NUMBLKSCOD) 3)
+    (element expstre none 1 (cell EXPSTRE)
+    ⨾ element ahte none 1 (cell AHTE)
+    ⨾ end)
+    ⨾ when (Not (cell NUMBLKSCOD) 3)
+    (put (cell EXPSTRE) (Let 1 0 no)
+    ⨾ put (cell AHTE) (Let 0 0 no)
+    ⨾ end)
+    ⨾ element snroffststr none 2 (cell SNROFFSTSTR)
+    ⨾ reject (Is (cell SNROFFSTSTR) 3) 7
+    ⨾ element transproce none 1 (cell TRANSPROCE)
+    ⨾ element blkswe none 1 (cell BLKSWE)
+    ⨾ element dithflage none 1 (cell DITHFLAGE)
+    ⨾ element bamode none 1 (cell BAMODE)
+    ⨾ element frmfgaincode none 1 (cell FRMFGAINCODE)
+    ⨾ element dbaflde none 1 (cell DBAFLDE)
+    ⨾ element skipflde none 1 (cell SKIPFLDE)
+    ⨾ element spxattene none 1 (cell SPXATTENE)
+    ⨾ when (Above (cell ACMOD) 1)
+    (put (cell CPLSTRE) (Let 1 0 no)
+    ⨾ element cplinu (nth 0) 1 (cell CPLINUS)
+    ⨾ each BLK (from 1) (Held (cell NUMBLKS))
+    (element cplstre (by BLK) 1 (at CPLSTRE BLK)
+    ⨾ when (Is (at CPLSTRE BLK) 1)
+    (element cplinu (by BLK) 1 (at CPLINUS BLK)
+    ⨾ end)
+    ⨾ when (Is (at CPLSTRE BLK) 0)
+    (put (at CPLINUS BLK) (Let 0 1 (at (CPLINUS - 1) BLK))
+    ⨾ end)
+    ⨾ end)
+    ⨾ end)
+    ⨾ put (cell NCPLBLKS) (Let 0 0 no)
+    ⨾ each BLK (from 0) (Held (cell NUMBLKS))
+    (when (Is (at CPLINUS BLK) 1)
+    (put (cell NCPLBLKS) (Let 1 1 (cell NCPLBLKS))
+    ⨾ end)
+    ⨾ end)
+    ⨾ end
+
+-- exponent strategies. They come block by block, coupling first; or one code for six blocks, for coupling and for each channel (Table E.1.9)
+unfoldable pub strategies : Block
+strategies =
+    when (Is (cell EXPSTRE) 1)
+    (each BLK (from 0) (Held (cell NUMBLKS))
+    (when (Is (at CPLINUS BLK) 1)
+    (element cplexpstr (by BLK) 2 (at CPLEXPSTR BLK)
+    ⨾ end)
+    ⨾ each CH (from 0) (Held (cell NFCHANS))
+    (element chexpstr (by BLK) 2 (at2 CHEXPSTR CH BLK)
+    ⨾ end)
+    ⨾ end)
+    ⨾ end)
+    ⨾ when (Is (cell EXPSTRE) 0)
+    (when (Above (cell ACMOD) 1)
+    (when (Above (cell NCPLBLKS) 0)
+    (element frmcplexpstr none 5 (cell FRMEXPSTR)
+    ⨾ act FRAME-EXPSTR 0
+    ⨾ each BLK (from 0) (Fixed 6)
+    (put (at CPLEXPSTR BLK) (Let 0 1 (at EXPSTR BLK))
+    ⨾ end)
+    ⨾ end)
+    ⨾ end)
+    ⨾ each CH (from 0) (Held (cell NFCHANS))
+    (element frmchexpstr (by CH) 5 (cell FRMEXPSTR)
+    ⨾ act FRAME-EXPSTR 0
+    ⨾ each BLK (from 0) (Fixed 6)
+    (put (at2 CHEXPSTR CH BLK) (Let 0 1 (at EXPSTR BLK))
+    ⨾ end)
+    ⨾ end)
+    ⨾ end)
+    ⨾ when (Is (cell LFEON) 1)
+    (each BLK (from 0) (Held (cell NUMBLKS))
+    (element lfeexpstr (by BLK) 1 (at LFEEXPSTR BLK)
+    ⨾ end)
+    ⨾ end)
+    ⨾ when (Is (cell STRMTYP) 0)
+    (when (Not (cell NUMBLKSCOD) 3)
+    (element convexpstre none 1 (cell CONVEXPSTRE)
+    ⨾ end)
+    ⨾ when (Is (cell NUMBLKSCOD) 3)
+    (put (cell CONVEXPSTRE) (Let 1 0 no)
+    ⨾ end)
+    ⨾ when (Is (cell CONVEXPSTRE) 1)
+    (each CH (from 0) (Held (cell NFCHANS))
+    (element convexpstr (by CH) 5 no
+    ⨾ end)
+    ⨾ end)
+    ⨾ end)
+    ⨾ end
+
+-- adaptive hybrid transform: the helper variables of E.2.4.2
+unfoldable pub hybrid : Block
+hybrid =
+    when (Is (cell AHTE) 1)
+    (put (cell NCPLREGS) (Let 0 0 no)
+    ⨾ each BLK (from 0) (Fixed 6)
+    (when (Is (at CPLSTRE BLK) 1)
+    (put (cell NCPLREGS) (Let 1 1 (cell NCPLREGS))
+    ⨾ end)
+    ⨾ when (Is (at CPLSTRE BLK) 0)
+    (when (Not (at CPLEXPSTR BLK) 0)
+    (put (cell NCPLREGS) (Let 1 1 (cell NCPLREGS))
+    ⨾ end)
+    ⨾ end)
+    ⨾ end)
+    ⨾ when (Is (cell NCPLBLKS) 6)
+    (when (Is (cell NCPLREGS) 1)
+    (element cplahtinu none 1 (cell (AHTINU + 5))
+    ⨾ end)
+    ⨾ end)
+    ⨾ each CH (from 0) (Held (cell NFCHANS))
+    (put (cell NCHREGS) (Let 0 0 no)
+    ⨾ each BLK (from 0) (Fixed 6)
+    (when (Not (at2 CHEXPSTR CH BLK) 0)
+    (put (cell NCHREGS) (Let 1 1 (cell NCHREGS))
+    ⨾ end)
+    ⨾ end)
+    ⨾ when (Is (cell NCHREGS) 1)
+    (element chahtinu (by CH) 1 (at AHTINU CH)
+    ⨾ end)
+    ⨾ end)
+    ⨾ when (Is (cell LFEON) 1)
+    (put (cell NLFEREGS) (Let 0 0 no)
+    ⨾ each BLK (from 0) (Fixed 6)
+    (when (Not (at LFEEXPSTR BLK) 0)
+    (put (cell NLFEREGS) (Let 1 1 (cell NLFEREGS))
+    ⨾ end)
+    ⨾ end)
+    ⨾ when (Is (cell NLFEREGS) 1)
+    (element lfeahtinu none 1 (cell (AHTINU + 6))
+    ⨾ end)
+    ⨾ end)
+    ⨾ end)
+    ⨾ end
+
+-- SNR offsets of the frame, transient pre-noise processing, spectral extension attenuation, block start information
+unfoldable pub offsets : Block
+offsets =
+    when (Is (cell SNROFFSTSTR) 0)
+    (element frmcsnroffst none 6 (cell CSNROFFST)
+    ⨾ element frmfsnroffst none 4 (cell FRMFSNROFFST)
+    ⨾ each SLOT (from 0) (Fixed 7)
+    (put (at FSNROFFST SLOT) (Let 0 1 (cell FRMFSNROFFST))
+    ⨾ end)
+    ⨾ end)
+    ⨾ when (Is (cell TRANSPROCE) 1)
+    (each CH (from 0) (Held (cell NFCHANS))
+    (element chintransproc (by CH) 1 (cell CHINTRANSPROC)
+    ⨾ when (Is (cell CHINTRANSPROC) 1)
+    (element transprocloc (by CH) 10 no
+    ⨾ element transproclen (by CH) 8 no
+    ⨾ end)
+    ⨾ end)
+    ⨾ end)
+    ⨾ when (Is (cell SPXATTENE) 1)
+    (each CH (from 0) (Held (cell NFCHANS))
+    (element chinspxatten (by CH) 1 (cell CHINSPXATTEN)
+    ⨾ when (Is (cell CHINSPXATTEN) 1)
+    (element spxattencod (by CH) 5 no
+    ⨾ end)
+    ⨾ end)
+    ⨾ end)
+    ⨾ when (Not (cell NUMBLKSCOD) 0)
+    (element blkstrtinfoe none 1 (cell BLKSTRTINFOE)
+    ⨾ when (Is (cell BLKSTRTINFOE) 1)
+    (act BLKSTRTINFO 0
+    ⨾ span blkstrtinfo (cell WIDTH)
+    ⨾ end)
+    ⨾ end)
+    ⨾ end
+
+unfoldable pub audfrm : Block
+audfrm = flags ⧺ strategies ⧺ hybrid ⧺ offsets
