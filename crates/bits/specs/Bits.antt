@@ -1,4 +1,4 @@
--- Bits of a buffer of bytes, the high bit of byte 0 first (A/52 clause 5.1, TS 102 366 clause 4.3).
+-- Bits of a buffer of bytes, the high bit of byte 0 first (A/52 clause 5.3, TS 102 366 clause 4.3).
 use mathlib.Core.Path.{_≡_}
 use mathlib.Core.Bool.{Bool, true, false, _&&_, cond}
 use mathlib.Core.List.{List}

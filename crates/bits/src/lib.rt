@@ -1,4 +1,4 @@
-// Bits of a slice of bytes, the high bit of each byte first (A/52 clause 5.1, TS 102 366 clause 4.3).
+// Bits of a slice of bytes, the high bit of each byte first (A/52 clause 5.3, TS 102 366 clause 4.3).
 ghost use mathlib.Core.Path.{_≡_};
 ghost use Prim.Native.Nat.{_*_, _/_, _<_, _≤_};
 ghost use Rattle.bits.specs.Bits.{getOf};

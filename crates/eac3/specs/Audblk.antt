@@ -37,7 +37,7 @@ dynamics =
     ⨾ end)
     ⨾ end
 
--- spectral extension strategy: the sub-bands of E.2.3.3
+-- spectral extension strategy: the sub-bands of E.2.3
 unfoldable pub spx-strategy : Block
 spx-strategy =
     when (Is (cell BLK) 0)

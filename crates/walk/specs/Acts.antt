@@ -25,7 +25,7 @@ unfoldable pub powersBelow : ℕ → ℕ → ℕ
 powersBelow n zero = 0
 powersBelow n (suc k) = powersBelow n k + cond (ltb (2 ^ k) n) 1 0
 
--- the width of blkstrtinfo (E.1.3.2.27): numblks - 1 times 4 + ceiling (log2 (words_per_syncframe))
+-- the width of blkstrtinfo (E.1.2.3): numblks - 1 times 4 + ceiling (log2 (words_per_syncframe))
 unfoldable pub blkstrtinfoBits : List ℕ → ℕ
 blkstrtinfoBits m = (cellOf m NUMBLKS - 1) * (4 + powersBelow (cellOf m FRMSIZ + 1) 17)
 
