@@ -4,8 +4,10 @@ use bits::BitPlace;
 use bits::ByteCount;
 use lent::Label;
 use libc::STDIN_FILENO;
-use libc::STDOUT_FILENO;
 use names::numbers;
+use print::blank;
+use print::newline;
+use print::number;
 use syntax::Cursor;
 ghost use mathlib.Core.Path.{_≡_};
 ghost use Prim.Native.Nat.{_*_, _≤_};
@@ -125,32 +127,17 @@ fn end(n: usize) -> BitPlace
     ByteCount(n as u16).bits()
 }
 
-fn text(bytes: &[u8]) {
-    io::write_all(STDOUT_FILENO, bytes);
-}
-
-fn number(n: u64) {
-    io::print_decimal(STDOUT_FILENO, n);
-}
-
-fn word(bytes: [u8; 16], letters: usize) {
-    if letters <= 16 {
-        text(&bytes[..letters]);
-    }
-}
-
 fn line(table: &[u8; 3232], first: u16, wide: u16, name: u8, value: u32)
     requires { ⌜ now table ≡ rows ⌝ }
 {
     number(first as u64);
-    text(b" ");
+    blank();
     number(wide as u64);
-    text(b" ");
-    let bytes = names::spelling(table, name);
-    word(bytes, names::letters(name) as usize);
-    text(b" ");
+    blank();
+    print::name(table, name);
+    blank();
     number(value as u64);
-    text(b"\n");
+    newline();
 }
 
 fn lines(

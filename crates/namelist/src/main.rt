@@ -1,18 +1,17 @@
 // Prints each name of a record on a line: its number, its spelling and its role.
 ghost use mathlib.Core.Path.{_≡_};
 ghost use Rattle.names.specs.Spelling.{rows};
-use libc::STDOUT_FILENO;
 use names::Role;
-
-fn text(bytes: &[u8]) {
-    io::write_all(STDOUT_FILENO, bytes);
-}
+use print::blank;
+use print::newline;
+use print::number;
+use print::text;
 
 // A role that belongs to a programme, with the programme's number.
 fn of_programme(bytes: &[u8], programme: u8) {
     text(bytes);
     text(b"(");
-    io::print_decimal(STDOUT_FILENO, programme as u64);
+    number(programme as u64);
     text(b")");
 }
 
@@ -42,22 +41,15 @@ fn role(r: Role) {
     }
 }
 
-fn word(bytes: [u8; 16], letters: usize) {
-    if letters <= 16 {
-        text(&bytes[..letters]);
-    }
-}
-
 fn line(table: &[u8; 3232], name: u8)
     requires { ⌜ now table ≡ rows ⌝ }
 {
-    io::print_decimal(STDOUT_FILENO, name as u64);
-    text(b" ");
-    let bytes = names::spelling(table, name);
-    word(bytes, names::letters(name) as usize);
-    text(b" ");
+    number(name as u64);
+    blank();
+    print::name(table, name);
+    blank();
     role(names::role_of(name));
-    text(b"\n");
+    newline();
 }
 
 fn lines(table: &[u8; 3232], all: [u8; 202])

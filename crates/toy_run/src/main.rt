@@ -1,51 +1,67 @@
 // Reads toy frames from standard input, each after a byte that tells its length, and writes the answer and
 // the records of each: first bit, width, name, block, index, value.
 ghost use Prim.Native.Nat.{_<_, _≤_};
-
-fn digit(d: u8)
-    requires { ⌜ d < 10 ⌝ }
-{
-    let b = [48 + d];
-    io::write_all(1, &b);
-}
-
-fn decimal(n: u32) {
-    if 9 < n {
-        decimal(n / 10);
-    }
-    digit((n % 10) as u8);
-}
-
-// A part of a record that is -1 for none.
-fn part(n: i16) {
-    if n < 0 {
-        io::write_all(1, b"-1");
-        return;
-    }
-    decimal(n as u32);
-}
-
-fn blank() {
-    io::write_all(1, b" ");
-}
+use libc::STDIN_FILENO;
+use print::blank;
+use print::newline;
+use print::number;
+use print::signed;
+use print::signed_byte;
+use print::text;
+use syntax::Cursor;
 
 fn line(first: u16, width: u16, name: u8, block: i8, index: i16, value: u32) {
-    decimal(first as u32);
+    number(first as u64);
     blank();
-    decimal(width as u32);
+    number(width as u64);
     blank();
-    decimal(name as u32);
+    number(name as u64);
     blank();
-    part(block as i16);
+    signed_byte(block);
     blank();
-    part(index);
+    signed(index);
     blank();
-    decimal(value);
-    io::write_all(1, b"\n");
+    number(value as u64);
+    newline();
 }
 
-fn small(n: usize) -> u32 {
-    if n < 4096 { n as u32 } else { 4096 }
+fn answer(c: Cursor) {
+    if c.stopped {
+        text(b"refused ");
+        number(c.number as u64);
+    } else {
+        text(b"accepted");
+    }
+    blank();
+    number(c.at.0 as u64);
+    blank();
+    number(c.count as u64);
+    newline();
+}
+
+fn lines(
+    count: usize,
+    firsts: [u16; 128],
+    widths: [u16; 128],
+    names: [u8; 128],
+    blocks: [i8; 128],
+    indexes: [i16; 128],
+    values: [u32; 128],
+) {
+    let mut i = 0;
+    while i < 128 {
+        if i < count {
+            line(
+                firsts[i],
+                widths[i],
+                names[i],
+                blocks[i],
+                indexes[i],
+                values[i],
+            );
+        }
+        i += 1;
+    }
 }
 
 fn run(frame: &[u8]) {
@@ -64,33 +80,8 @@ fn run(frame: &[u8]) {
         &mut widths,
         &mut values,
     );
-    if c.stopped {
-        io::write_all(1, b"refused ");
-        decimal(c.number as u32);
-    } else {
-        io::write_all(1, b"accepted");
-    }
-    blank();
-    let at = c.at;
-    decimal(at.0 as u32);
-    blank();
-    let count = c.count;
-    decimal(small(count));
-    io::write_all(1, b"\n");
-    let mut i: usize = 0;
-    while i < 128 {
-        if i < count {
-            line(
-                firsts[i],
-                widths[i],
-                names[i],
-                blocks[i],
-                indexes[i],
-                values[i],
-            );
-        }
-        i += 1;
-    }
+    answer(c);
+    lines(c.count, firsts, widths, names, blocks, indexes, values);
 }
 
 fn end_of(at: usize, n: usize, len: u8) -> usize
@@ -103,7 +94,7 @@ fn end_of(at: usize, n: usize, len: u8) -> usize
 
 fn main() {
     let mut input = io::buffer();
-    let n = io::read_full(0, &mut input);
+    let n = io::read_full(STDIN_FILENO, &mut input);
     let data: &[u8] = &input[..n];
     let mut at: usize = 0;
     while at < data.len() {

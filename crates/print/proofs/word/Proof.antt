@@ -2,8 +2,8 @@
 use native.Mathlib.Omega.{arith}
 use lib.ListN.{length-take}
 use borrow.Author.Needs.{needs}
-use Rattle.namelist.proofs.word.Statement.{statement}
-use Rattle.namelist.proofs.word.Tie as tie
+use Rattle.print.proofs.word.Statement.{statement}
+use Rattle.print.proofs.word.Tie as tie
 
 array-share-prefix-bytes : tie.Need-array-share-prefix-bytes
 array-share-prefix-bytes c = search needs
