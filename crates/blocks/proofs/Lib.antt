@@ -3,7 +3,9 @@ pub mod Unmet
 pub mod BitTables
 pub mod SkimLaws
 pub mod MantissaLaws
+pub mod TallyLaws
 pub mod HybridLaws
 pub mod VisitLaws
 pub mod StateLaws
+pub mod MemoLaws
 pub mod Edges

@@ -1,9 +1,11 @@
 pub mod Exponents
 pub mod Held
 pub mod Mantissas
+pub mod Tally
 pub mod Hybrid
 pub mod Told
 pub mod Plan
 pub mod Taken
 pub mod State
 pub mod Coded
+pub mod Memo

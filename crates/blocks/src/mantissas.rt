@@ -1,5 +1,12 @@
 // Conventional mantissas: how many bits they take, by their pointers (A/52 clause 7.3.5, TS 102 366
 // clause 6.3.5). Of the input only the end is asked for.
+use crate::tally::Tally;
+use crate::tally::opened2;
+use crate::tally::opened3;
+use crate::tally::shares;
+use crate::tally::tallied;
+use crate::tally::turned2;
+use crate::tally::turned3;
 use bits::BitPlace;
 ghost use mathlib.Core.Path.{_≡_};
 ghost use mathlib.Core.List.{List};
@@ -7,9 +14,11 @@ ghost use mathlib.Core.Bool.{false};
 ghost use Prim.Native.Nat.{ℕ, _+_, _-_, _%_, _<_, _≤_};
 ghost use lib.Dec.{ltb};
 ghost use lib.ListN.{length, getD};
+ghost use Rattle.alloc.specs.Allocation.{tab};
 ghost use Rattle.tables.specs.Small.{bapBits};
 ghost use Rattle.reading.specs.Run.{skim};
 ghost use Rattle.blocks.specs.Mantissas.{opensOf, widthOf, countedOf, conventionalOf};
+ghost use Rattle.blocks.specs.Tally.{shareOf, spentOf, leftOf};
 ghost use Rattle.blocks.specs.Told.{groupsTold};
 
 // How many mantissas of the group at hand have passed, of the pointers 1, 2 and 4.
@@ -115,9 +124,9 @@ fn counted(g: Groups, bap: u8) -> Groups
     g
 }
 
-// Passes the mantissas of the bins `start` to `end` - 1 of a slot: refusal 8 at the first bit of the
-// one that would pass `limit`.
-pub fn conventional(
+// Passes the mantissas of the bins `start` to `end` - 1 of a slot, one by one: refusal 8 at the first bit of
+// the one that would pass `limit`.
+fn one_by_one(
     bins: &[u8; 3584],
     slot: u8,
     start: u16,
@@ -154,4 +163,67 @@ pub fn conventional(
         place: BitPlace(p),
         groups: q,
     }
+}
+
+// All bits of the mantissas of a tally.
+fn spent(g: Groups, t: Tally) -> u32
+    ensures { λ r. ⌜ (r ≡ spentOf g t) × (r ≤ 1310700) ⌝ }
+{
+    t.alone as u32 + 5 * opened3(g.g1, t.n1) + 7 * opened3(g.g2, t.n2) + 7 * opened2(g.g4, t.n4)
+}
+
+// The counts after them.
+fn left(g: Groups, t: Tally) -> Groups
+    ensures { λ r. ⌜ r ≡ leftOf g t ⌝ }
+{
+    Groups {
+        g1: turned3(g.g1, t.n1),
+        g2: turned3(g.g2, t.n2),
+        g4: turned2(g.g4, t.n4),
+    }
+}
+
+// Passes the mantissas of the bins `start` to `end` - 1 of a slot: refusal 8 at the first bit of the one
+// that would pass `limit`. What they take is counted first; one by one they are passed only where that is
+// too much.
+pub fn pass(
+    shares: &[u64; 256],
+    bins: &[u8; 3584],
+    slot: u8,
+    start: u16,
+    end: u16,
+    g: Groups,
+    at: BitPlace,
+    limit: BitPlace,
+) -> Passed
+    requires { ⌜ (now shares ≡ tab shareOf 0 256) × (length (now bins) ≡ 3584) × (slot < 7) × (end ≤ 256) ⌝ }
+    ensures { λ r. ⌜ ((s : List ℕ) → groupsTold r ≡ skim (conventionalOf (now (bins .entry)) slot start (end - start) g) s (at .0) (limit .0)) ⌝ }
+{
+    let t = tallied(shares, bins, slot, start, end);
+    let p = at.0 as u32 + spent(g, t);
+    if (limit.0 as u32) < p {
+        return one_by_one(bins, slot, start, end, g, at, limit);
+    }
+    Passed {
+        refused: false,
+        place: BitPlace(p as u16),
+        groups: left(g, t),
+    }
+}
+
+// The same by a table of its own.
+pub fn conventional(
+    bins: &[u8; 3584],
+    slot: u8,
+    start: u16,
+    end: u16,
+    g: Groups,
+    at: BitPlace,
+    limit: BitPlace,
+) -> Passed
+    requires { ⌜ (length (now bins) ≡ 3584) × (slot < 7) × (end ≤ 256) ⌝ }
+    ensures { λ r. ⌜ ((s : List ℕ) → groupsTold r ≡ skim (conventionalOf (now (bins .entry)) slot start (end - start) g) s (at .0) (limit .0)) ⌝ }
+{
+    let t = shares();
+    pass(&t, bins, slot, start, end, g, at, limit)
 }

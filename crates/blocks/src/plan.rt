@@ -3,14 +3,17 @@ use crate::exponents::CPL;
 use crate::exponents::LFE;
 use crate::hybrid::aht;
 use crate::mantissas::Groups;
-use crate::mantissas::conventional;
+use crate::mantissas::pass;
+use crate::tally::shares;
 use bits::BitPlace;
 ghost use mathlib.Core.Path.{_≡_};
 ghost use mathlib.Core.Bool.{cond, _&&_, _||_, not, false};
 ghost use mathlib.Core.List.{[]};
 ghost use Prim.Native.Nat.{_+_, _*_, _<_, _≤_, min};
 ghost use lib.ListN.{length, getD};
+ghost use Rattle.alloc.specs.Allocation.{tab};
 ghost use Rattle.reading.specs.Run.{skim, out};
+ghost use Rattle.blocks.specs.Tally.{shareOf};
 ghost use Rattle.blocks.specs.Plan.{rangeOf, usedOf, readOf, requestedOf, along, visitIf, mantissasOf};
 ghost use Rattle.blocks.specs.Taken.{takingTold, onward, taken};
 ghost use Rattle.blocks.specs.Told.{orPast};
@@ -122,6 +125,7 @@ pub fn requested(shape: Shape, slot: u8) -> bool
 
 // The mantissas of a slot, where it is wanted and no refusal stands.
 fn visit(
+    shares: &[u64; 256],
     src: &[u8],
     bins: &[u8; 3584],
     shape: Shape,
@@ -130,6 +134,7 @@ fn visit(
     t: Taking,
     limit: u16,
 ) -> Taking
+    requires { ⌜ now shares ≡ tab shareOf 0 256 ⌝ }
     requires { ⌜ (length (now bins) ≡ 3584) × (slot < 7) × (limit ≤ 8 * length (now src)) × (t .tags ≤ 32768) ⌝ }
     ensures { λ r. ⌜ (takingTold r ≡ onward t (visitIf (now (bins .entry)) shape wanted slot) (now (src .entry)) limit) × (r .tags ≤ t .tags + 1536) ⌝ }
 {
@@ -153,7 +158,8 @@ fn visit(
             groups: g,
         };
     }
-    let p = conventional(
+    let p = pass(
+        shares,
         bins,
         slot,
         r.start,
@@ -219,6 +225,7 @@ pub fn mantissas(
     requires { ⌜ (length (now bins) ≡ 3584) × (limit .0 ≤ 8 * length (now src)) ⌝ }
     ensures { λ r. ⌜ taken r ≡ skim (mantissasOf (now (bins .entry)) shape) (now (src .entry)) (at .0) (limit .0) ⌝ }
 {
+    let table = shares();
     let last = limit.0;
     let n = least(shape.nfchans as u16, 5);
     let mut t = Taking {
@@ -235,13 +242,13 @@ pub fn mantissas(
     let mut ch: u16 = 0;
     while ch < n {
         let slot = ch as u8;
-        t = visit(src, bins, shape, true, slot, t, last);
+        t = visit(&table, src, bins, shape, true, slot, t, last);
         let c = coupled(shape, slot);
-        t = visit(src, bins, shape, first(c, got), CPL, t, last);
+        t = visit(&table, src, bins, shape, first(c, got), CPL, t, last);
         got = either(got, c);
         ch += 1;
     }
-    t = visit(src, bins, shape, shape.lfeon, LFE, t, last);
+    t = visit(&table, src, bins, shape, shape.lfeon, LFE, t, last);
     Taken {
         number: t.number,
         place: BitPlace(t.place),

@@ -1,6 +1,9 @@
 // The state of bit allocation, and the pointers of a block (A/52 clause 7.2.2.1, TS 102 366 clause 6.2.2.1).
 use crate::exponents::CPL;
 use crate::exponents::LFE;
+use crate::memo::fill;
+use crate::memo::kept;
+use crate::memo::note;
 use crate::plan::Range;
 use crate::plan::Shape;
 use crate::plan::hybrid;
@@ -14,7 +17,7 @@ use alloc::Pointers;
 ghost use mathlib.Core.Path.{_≡_};
 ghost use mathlib.Core.Bool.{_&&_, _||_, not, cond};
 ghost use mathlib.Core.List.{_++_};
-ghost use Prim.Native.Nat.{ℕ, _+_, _*_, _-_, _<_, _≤_, min};
+ghost use Prim.Native.Nat.{ℕ, _+_, _*_, _-_, _/_, _%_, _<_, _≤_, min};
 ghost use lib.Dec.{eqb};
 ghost use lib.ListN.{length, getD, take, drop};
 ghost use Rattle.alloc.specs.Allocation.{allocation, fastOf, slowOf};
@@ -23,6 +26,8 @@ ghost use Rattle.blocks.specs.Plan.{requestedOf, rangeOf};
 ghost use Rattle.blocks.specs.Held.{Held};
 ghost use Rattle.blocks.specs.State.{freshState, deltaCodeOf, eightOf, segmentsOf, quietOf, silentOf, channelOf, leakFor, kindOf, paramsFor, expsIn, pointedOf, pointersOf, pointSlots, allocated, allocatedOf};
 ghost use Rattle.blocks.specs.Coded.{Coded, quietened};
+ghost use Rattle.blocks.specs.Memo.{Memo, Says, headOf, Joined};
+ghost use Rattle.tables.specs.BitAllocation.{fastgain};
 
 // The codes of the parameters.
 pub struct Codes {
@@ -186,7 +191,7 @@ fn silent(st: AllocState, shape: Shape) -> bool
 // The parameters of a slot's allocation; of none of its bins where the block is silent.
 fn channel(st: AllocState, shape: Shape, slot: u8, hushed: bool) -> Channel
     requires { ⌜ slot < 7 ⌝ }
-    ensures { λ r. ⌜ (r ≡ quietened hushed (channelOf st shape slot)) × (r .end ≤ 253) × (r .fgain ≤ 1024) ⌝ }
+    ensures { λ r. ⌜ (r ≡ quietened hushed (channelOf st shape slot)) × (r .end ≤ 253) × (r .fgain ≤ 1024) × (r .start < 65536) × (r .fgain ≡ getD fastgain (getD (st .fgaincod) slot 0) 0) ⌝ }
 {
     let i = slot as usize;
     let r = range_at(shape, slot);
@@ -245,16 +250,89 @@ fn exps_in(bins: &[u8], slot: usize) -> [u8; 256]
     out
 }
 
-// The pointers of a slot, where they are asked for.
-fn point(
+fn one_if(b: bool) -> u8
+    ensures { λ r. ⌜ r ≡ cond b 1 0 ⌝ }
+{
+    if b { 1 } else { 0 }
+}
+
+// The low and the high byte of a number.
+fn low(x: usize) -> u8
+    ensures { λ r. ⌜ r ≡ x % 256 ⌝ }
+{
+    (x % 256) as u8
+}
+
+fn high(x: usize) -> u8
+    ensures { λ r. ⌜ r ≡ x / 256 % 256 ⌝ }
+{
+    (x / 256 % 256) as u8
+}
+
+// The arguments of a slot's allocation as bytes, but for the segments.
+fn head_of(
+    st: AllocState,
+    q: Codes,
+    fscod: u8,
+    shape: Shape,
+    slot: u8,
+    c: Channel,
+    n: usize,
+) -> [u8; 18]
+    requires { ⌜ slot < 7 ⌝ }
+    ensures { λ r. ⌜ r ≡ headOf st q fscod shape slot c n ⌝ }
+{
+    let i = slot as usize;
+    let kind = one_if(hybrid(shape, slot));
+    let coupling = one_if(slot == CPL);
+    [
+        1,
+        kind,
+        low(c.start),
+        high(c.start),
+        low(c.end),
+        st.fgaincod[i],
+        c.csnroffst,
+        c.fsnroffst,
+        q.sdcycod,
+        q.fdcycod,
+        q.sgaincod,
+        q.dbpbcod,
+        q.floorcod,
+        fscod,
+        coupling,
+        st.cplfleak,
+        st.cplsleak,
+        low(n),
+    ]
+}
+
+// The segments put to them.
+fn args_of(head: [u8; 18], s: Deltas) -> [u8; 48]
+    ensures { λ r. ⌜ Joined r head s ⌝ }
+{
+    let offset = s.offset;
+    let len = s.len;
+    let ba = s.ba;
+    let mut a = [0u8; 48];
+    fill(&mut a, 0, &head);
+    fill(&mut a, 24, &offset);
+    fill(&mut a, 32, &len);
+    fill(&mut a, 40, &ba);
+    a
+}
+
+// The pointers of a slot computed, and what they were computed from is kept.
+fn renew(
     latab: &[u8; 256],
     masktab: &[u8; 253],
     ends: &[u8; 50],
     hth: &[u16; 150],
     points: &[u8; 128],
     bins: &mut [u8],
-    asked: bool,
+    memo: &mut [u8; 2128],
     slot: usize,
+    args: &[u8; 48],
     c: Channel,
     p: Params,
     l: Leak,
@@ -262,13 +340,10 @@ fn point(
     kind: Pointers,
 )
     requires { ⌜ Lent (now latab) (now masktab) (now ends) (now hth) (now points) ⌝ }
-    requires { ⌜ (Held (now bins)) × (slot < 7) ⌝ }
+    requires { ⌜ (Held (now bins)) × (slot < 7) × Memo (now memo) (now bins) × Says (now args) kind c p l d ⌝ }
     requires { ⌜ (Channelled c l d) × Tuned p ⌝ }
-    ensures { λ r. ⌜ now (bins .exit) ≡ cond asked (pointedOf (now (bins .entry)) slot (allocation kind (expsIn (now (bins .entry)) slot) c p l d)) (now (bins .entry)) ⌝ }
+    ensures { λ r. ⌜ (now (bins .exit) ≡ pointedOf (now (bins .entry)) slot (allocation kind (expsIn (now (bins .entry)) slot) c p l d)) × Memo (now (memo .exit)) (now (bins .exit)) ⌝ }
 {
-    if !asked {
-        return;
-    }
     let exps = exps_in(bins, slot);
     let a = 1792 + 256 * slot;
     let e = a + 256;
@@ -286,12 +361,68 @@ fn point(
         d,
         kind,
     );
+    note(memo, slot, args, &exps);
+}
+
+// The pointers of a slot, where they are asked for; computed only where something changed since.
+fn point(
+    latab: &[u8; 256],
+    masktab: &[u8; 253],
+    ends: &[u8; 50],
+    hth: &[u16; 150],
+    points: &[u8; 128],
+    bins: &mut [u8],
+    memo: &mut [u8; 2128],
+    asked: bool,
+    slot: usize,
+    args: &[u8; 48],
+    c: Channel,
+    p: Params,
+    l: Leak,
+    d: Deltas,
+    kind: Pointers,
+)
+    requires { ⌜ Lent (now latab) (now masktab) (now ends) (now hth) (now points) ⌝ }
+    requires { ⌜ (Held (now bins)) × (slot < 7) × Memo (now memo) (now bins) × Says (now args) kind c p l d ⌝ }
+    requires { ⌜ (Channelled c l d) × Tuned p ⌝ }
+    ensures { λ r. ⌜ (now (bins .exit) ≡ cond asked (pointedOf (now (bins .entry)) slot (allocation kind (expsIn (now (bins .entry)) slot) c p l d)) (now (bins .entry))) × Memo (now (memo .exit)) (now (bins .exit)) ⌝ }
+{
+    if !asked {
+        return;
+    }
+    if kept(memo, bins, slot, args) {
+        return;
+    }
+    renew(
+        latab,
+        masktab,
+        ends,
+        hth,
+        points,
+        bins,
+        memo,
+        slot,
+        args,
+        c,
+        p,
+        l,
+        d,
+        kind,
+    );
 }
 
 // The pointers of all slots that are asked for. The tables are made once.
-fn point_slots(st: AllocState, q: Codes, fscod: u8, shape: Shape, d: Segments, bins: &mut [u8])
-    requires { ⌜ (Held (now bins)) × (Coded st fscod) ⌝ }
-    ensures { λ r. ⌜ now (bins .exit) ≡ pointSlots st (paramsFor q fscod) shape d (now (bins .entry)) 0 7 ⌝ }
+fn point_slots(
+    st: AllocState,
+    q: Codes,
+    fscod: u8,
+    shape: Shape,
+    d: Segments,
+    bins: &mut [u8],
+    memo: &mut [u8; 2128],
+)
+    requires { ⌜ (Held (now bins)) × (Coded st fscod) × Memo (now memo) (now bins) ⌝ }
+    ensures { λ r. ⌜ (now (bins .exit) ≡ pointSlots st (paramsFor q fscod) shape d (now (bins .entry)) 0 7) × Memo (now (memo .exit)) (now (bins .exit)) ⌝ }
 {
     let latab = tables::log_add();
     let masktab = tables::masktab();
@@ -314,6 +445,7 @@ fn point_slots(st: AllocState, q: Codes, fscod: u8, shape: Shape, d: Segments, b
         let l = leak_for(st, slot);
         let s = segments_of(d, slot);
         let k = kind_of(shape, slot);
+        let args = args_of(head_of(st, q, fscod, shape, slot, c, s.n), s);
         point(
             &latab,
             &masktab,
@@ -321,8 +453,10 @@ fn point_slots(st: AllocState, q: Codes, fscod: u8, shape: Shape, d: Segments, b
             &hth,
             &points,
             bins,
+            memo,
             asked,
             slot as usize,
+            &args,
             c,
             p,
             l,
@@ -341,14 +475,15 @@ pub fn allocate_block(
     shape: Shape,
     d: Segments,
     bins: &mut [u8; 3584],
+    memo: &mut [u8; 2128],
 ) -> u8
-    requires { ⌜ (Held (now bins)) × (Coded st fscod) ⌝ }
-    ensures { λ r. ⌜ allocated r (now (bins .exit)) ≡ allocatedOf st fscod shape d (now (bins .entry)) ⌝ }
+    requires { ⌜ (Held (now bins)) × (Coded st fscod) × Memo (now memo) (now bins) ⌝ }
+    ensures { λ r. ⌜ (allocated r (now (bins .exit)) ≡ allocatedOf st fscod shape d (now (bins .entry))) × Memo (now (memo .exit)) (now (bins .exit)) ⌝ }
 {
     let parameters = st.parameters;
     let Parameters::Sent(q) = parameters else {
         return 29;
     };
-    point_slots(st, q, fscod, shape, d, bins);
+    point_slots(st, q, fscod, shape, d, bins, memo);
     0
 }

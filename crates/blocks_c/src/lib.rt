@@ -162,7 +162,7 @@ fn sent_of(sent: bool, codes: [u8; 5]) -> Parameters
     Parameters::NeverSent
 }
 
-// The arrays come in lent, one for each.
+// The arrays come in lent, one for each. Nothing is kept from one call to the next.
 #[no_mangle]
 pub extern "C" fn blocks_allocate(
     sent: bool,
@@ -229,5 +229,6 @@ pub extern "C" fn blocks_allocate(
         len: sl,
         ba: sb,
     };
-    blocks::state::allocate_block(st, fscod, shape, d, bins)
+    let mut memo = [0u8; 2128];
+    blocks::state::allocate_block(st, fscod, shape, d, bins, &mut memo)
 }

@@ -1,3 +1,4 @@
+use Rattle.blocks.proofs.MemoLaws.{memo-fresh}
 use borrow.Author.Needs.{needs}
 use Rattle.blocks_c.proofs.blocks_allocate.Statement.{statement}
 use Rattle.blocks_c.proofs.blocks_allocate.Tie as tie
@@ -10,10 +11,10 @@ sent-of-requires : tie.Need-sent-of-requires
 sent-of-requires c κs = search needs
 
 allocate-block-requires : tie.Need-allocate-block-requires
-allocate-block-requires c κs = search needs
+allocate-block-requires c κs = (c .before .before .before .before .before .before .before .before .before .before .before .before .before .pre .0, record { fast = c .before .before .before .before .before .before .before .before .before .before .before .before .before .pre .1; slow = c .before .before .before .before .before .before .before .before .before .before .before .before .before .pre .2; rate = c .before .before .before .before .before .before .before .before .before .before .before .before .before .pre .3 }, memo-fresh _)
 
 returns : tie.Need-returns
-returns c = rw (← c .before .before .sent-of .ensures) (c .allocate-block .ensures)
+returns c = rw (← c .before .before .before .sent-of .ensures) (c .allocate-block .ensures .0)
 
 pub blocks-allocate-spec : {M : Type 1} → statement M
 blocks-allocate-spec = tie.close (tie.spec sent-of-requires allocate-block-requires returns)

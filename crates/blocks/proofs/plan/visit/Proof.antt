@@ -8,7 +8,7 @@ use Rattle.blocks.proofs.plan.visit.Tie as tie
 use Rattle.blocks.proofs.plan.visit.Reads as reads
 use Rattle.blocks.proofs.plan.visit.Lts as lts
 use Rattle.blocks.proofs.hybrid.aht.Reads as aht-reads
-use Rattle.blocks.proofs.mantissas.conventional.Reads as conventional-reads
+use Rattle.blocks.proofs.mantissas.pass.Reads as pass-reads
 use Rattle.blocks.proofs.plan.hybrid.Reads as hybrid-reads
 use Rattle.blocks.proofs.plan.passed.Reads as passed-reads
 use Rattle.blocks.proofs.plan.range_at.Reads as range-at-reads
@@ -33,22 +33,22 @@ hybrid-requires : tie.Need-hybrid-requires
 hybrid-requires c κs = search needs
 
 aht-requires : tie.Need-aht-requires
-aht-requires c κs = (c .before .before .before .before .before .before .before .before .before .before .pre .0, c .before .before .before .before .before .before .before .before .before .before .pre .1, omega (arith, c .before .before .before .range-at .ensures .1), c .before .before .before .before .before .before .before .before .before .before .pre .2)
+aht-requires c κs = (c .before .before .before .before .before .before .before .before .before .before .pre .1 .0, c .before .before .before .before .before .before .before .before .before .before .pre .1 .1, omega (arith, c .before .before .before .range-at .ensures .1), c .before .before .before .before .before .before .before .before .before .before .pre .1 .2)
 
-add-t15 : tie.Need-add-t15
-add-t15 c = omega (arith, c .before .before .aht .ensures .1)
+add-t16 : tie.Need-add-t16
+add-t16 c = omega (arith, c .before .before .aht .ensures .1)
 
 returns-4 : tie.Need-returns-4
 returns-4 c = (visit-aht _ _ _ _ _ _ _ (c .before .before .before .before .before .before .before .before .before .before .if1 .left) (not-false _ (c .before .before .before .before .before .before .before .before .before .if2 .left)) _ (c .before .before .before .before .before .before .before .before .read .ensures) (c .before .before .before .before .before .before .before .if3 .left) _ (c .before .before .before .before .before .before .range-at .ensures .0) _ (c .before .before .before .before .hybrid .ensures) (c .before .before .before .if4 .taken) (c .before .before .aht .result) (c .before .before .aht .ensures .0), omega (arith, c .before .before .aht .ensures .1))
 
-conventional-requires : tie.Need-conventional-requires
-conventional-requires c κs = (c .before .before .before .before .before .before .before .before .before .before .pre .0, c .before .before .before .before .before .before .before .before .before .before .pre .1, omega (arith, c .before .before .before .range-at .ensures .1))
+pass-requires : tie.Need-pass-requires
+pass-requires c κs = (c .before .before .before .before .before .before .before .before .before .before .pre .0, c .before .before .before .before .before .before .before .before .before .before .pre .1 .0, c .before .before .before .before .before .before .before .before .before .before .pre .1 .1, omega (arith, c .before .before .before .range-at .ensures .1))
 
 passed-requires : tie.Need-passed-requires
 passed-requires c κs = search needs
 
 returns-5 : tie.Need-returns-5
-returns-5 c = (visit-conventional _ _ _ _ _ _ _ (c .before .before .before .before .before .before .before .before .before .if1 .left) (not-false _ (c .before .before .before .before .before .before .before .before .if2 .left)) _ (c .before .before .before .before .before .before .before .read .ensures) (c .before .before .before .before .before .before .if3 .left) _ (c .before .before .before .before .before .range-at .ensures .0) _ (c .before .before .before .hybrid .ensures) (c .before .before .if4 .left) (c .before .conventional .result) (c .before .conventional .ensures _) _ (c .passed .ensures .0), omega (arith, c .passed .ensures .1))
+returns-5 c = (visit-conventional _ _ _ _ _ _ _ (c .before .before .before .before .before .before .before .before .before .if1 .left) (not-false _ (c .before .before .before .before .before .before .before .before .if2 .left)) _ (c .before .before .before .before .before .before .before .read .ensures) (c .before .before .before .before .before .before .if3 .left) _ (c .before .before .before .before .before .range-at .ensures .0) _ (c .before .before .before .hybrid .ensures) (c .before .before .if4 .left) (c .before .pass .result) (c .before .pass .ensures _) _ (c .passed .ensures .0), omega (arith, c .passed .ensures .1))
 
 pub visit-spec : {M : Type 1} → statement M
 visit-spec =
@@ -61,8 +61,8 @@ visit-spec =
     range-at-requires
     hybrid-requires
     aht-requires
-    add-t15
+    add-t16
     returns-4
-    conventional-requires
+    pass-requires
     passed-requires
     returns-5)

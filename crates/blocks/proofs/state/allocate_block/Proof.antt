@@ -14,13 +14,13 @@ enum-told : tie.Need-enum-told
 enum-told c = search needs
 
 returns : tie.Need-returns
-returns c = never-sent _ _ _ _ _ _ refl (c .enum-told .given .1)
+returns c = (never-sent _ _ _ _ _ _ refl (c .enum-told .given .1), c .before .before .pre .2)
 
 point-slots-requires : tie.Need-point-slots-requires
 point-slots-requires c κs = search needs
 
 returns-2 : tie.Need-returns-2
-returns-2 c = sent _ _ _ _ _ _ refl _ (c .before .before .before .parameters .given .1) _ (c .point-slots .ensures)
+returns-2 c = (sent _ _ _ _ _ _ refl _ (c .before .before .before .before .parameters .given .1) _ (c .point-slots .ensures .0), c .point-slots .ensures .1)
 
 pub allocate-block-spec : {M : Type 1} → statement M
 allocate-block-spec =

@@ -24,7 +24,7 @@ element-copy-out-t16 c = search needs
 
 returns : tie.Need-returns
 unfolding channelOf
-returns c = (rw (c .before .if1 .taken, c .before .before .fast-gain .ensures), omega arith, rw (c .before .before .fast-gain .ensures) (fastgain-high _))
+returns c = (rw (c .before .if1 .taken, c .before .before .fast-gain .ensures), omega arith, rw (c .before .before .fast-gain .ensures) (fastgain-high _), omega arith, c .before .before .fast-gain .ensures)
 
 cast-t17 : tie.Need-cast-t17
 cast-t17 c = search needs
@@ -37,7 +37,7 @@ element-copy-out-t21 c = search needs
 
 returns-2 : tie.Need-returns-2
 unfolding channelOf
-returns-2 c = (rw (c .before .before .before .if1 .left, c .before .before .before .before .fast-gain .ensures, c .before .before .before .before .before .before .range-at .ensures .0), omega (arith, c .before .before .before .before .before .before .range-at .ensures .1), rw (c .before .before .before .before .fast-gain .ensures) (fastgain-high _))
+returns-2 c = (rw (c .before .before .before .if1 .left, c .before .before .before .before .fast-gain .ensures, c .before .before .before .before .before .before .range-at .ensures .0), omega (arith, c .before .before .before .before .before .before .range-at .ensures .1), rw (c .before .before .before .before .fast-gain .ensures) (fastgain-high _), omega arith, c .before .before .before .before .fast-gain .ensures)
 
 pub channel-spec : {M : Type 1} → statement M
 channel-spec =

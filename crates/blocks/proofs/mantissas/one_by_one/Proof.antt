@@ -6,10 +6,10 @@ use Rattle.reading.specs.Run.{skim}
 use Rattle.blocks.proofs.MantissaLaws.{conv-end, conv-past, conv-on}
 use Rattle.blocks.specs.Mantissas.{conventionalOf}
 use borrow.Author.Needs.{needs}
-use Rattle.blocks.proofs.mantissas.conventional.Statement.{statement}
-use Rattle.blocks.proofs.mantissas.conventional.Tie as tie
-use Rattle.blocks.proofs.mantissas.conventional.Reads as reads
-use Rattle.blocks.proofs.mantissas.conventional.Lts as lts
+use Rattle.blocks.proofs.mantissas.one_by_one.Statement.{statement}
+use Rattle.blocks.proofs.mantissas.one_by_one.Tie as tie
+use Rattle.blocks.proofs.mantissas.one_by_one.Reads as reads
+use Rattle.blocks.proofs.mantissas.one_by_one.Lts as lts
 use Rattle.blocks.proofs.mantissas.counted.Reads as counted-reads
 use Rattle.blocks.proofs.mantissas.past.Reads as past-reads
 use Rattle.blocks.proofs.mantissas.width.Reads as width-reads
@@ -65,8 +65,8 @@ loop-again c = λ s. c .before .before .before .before .before .before .loop .in
 returns-2 : tie.Need-returns-2 Inv-loop μ-loop
 returns-2 c = λ s. sym (c .before .loop .inv s ∙ conv-end s _ _ _ _ _ _ _ (c .loop-test .left))
 
-pub conventional-spec : {M : Type 1} → statement M
-conventional-spec =
+pub one-by-one-spec : {M : Type 1} → statement M
+one-by-one-spec =
     tie.close
     (tie.spec
     Inv-loop

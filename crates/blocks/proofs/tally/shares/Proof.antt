@@ -1,0 +1,78 @@
+use mathlib.Core.Path.{refl}
+use Rattle.tables.specs.Small.{bapBits}
+use Rattle.blocks.specs.Tally.{shareOf}
+use borrow.Author.Needs.{needs}
+use Rattle.blocks.proofs.tally.shares.Statement.{statement}
+use Rattle.blocks.proofs.tally.shares.Tie as tie
+use Rattle.blocks.proofs.tally.shares.Reads as reads
+use Rattle.blocks.proofs.tally.shares.Lts as lts
+
+array-write-t : tie.Need-array-write-t
+array-write-t c = search needs
+
+array-write-t-2 : tie.Need-array-write-t-2
+array-write-t-2 c = search needs
+
+array-write-t-3 : tie.Need-array-write-t-3
+array-write-t-3 c = search needs
+
+array-write-t-4 : tie.Need-array-write-t-4
+array-write-t-4 c = search needs
+
+array-write-t-5 : tie.Need-array-write-t-5
+array-write-t-5 c = search needs
+
+array-write-t-6 : tie.Need-array-write-t-6
+array-write-t-6 c = search needs
+
+array-write-t-7 : tie.Need-array-write-t-7
+array-write-t-7 c = search needs
+
+array-write-t-8 : tie.Need-array-write-t-8
+array-write-t-8 c = search needs
+
+array-write-t-9 : tie.Need-array-write-t-9
+array-write-t-9 c = search needs
+
+array-write-t-10 : tie.Need-array-write-t-10
+array-write-t-10 c = search needs
+
+array-write-t-11 : tie.Need-array-write-t-11
+array-write-t-11 c = search needs
+
+array-write-t-12 : tie.Need-array-write-t-12
+array-write-t-12 c = search needs
+
+array-write-t-13 : tie.Need-array-write-t-13
+array-write-t-13 c = search needs
+
+array-write-t-14 : tie.Need-array-write-t-14
+array-write-t-14 c = search needs
+
+array-write-t-15 : tie.Need-array-write-t-15
+array-write-t-15 c = search needs
+
+returns : tie.Need-returns
+unfolding shareOf bapBits
+returns c = refl
+
+pub shares-spec : {M : Type 1} → statement M
+shares-spec =
+    tie.close
+    (tie.spec
+    array-write-t
+    array-write-t-2
+    array-write-t-3
+    array-write-t-4
+    array-write-t-5
+    array-write-t-6
+    array-write-t-7
+    array-write-t-8
+    array-write-t-9
+    array-write-t-10
+    array-write-t-11
+    array-write-t-12
+    array-write-t-13
+    array-write-t-14
+    array-write-t-15
+    returns)
