@@ -793,6 +793,7 @@ pub fn parse(
     let table = TABLE;
     let mut cells: [u16; 640] = [0; 640];
     let mut bins: [u8; 3584] = [0; 3584];
+    let mut memo: [u8; 2128] = [0; 2128];
     let limit = limit_of(src);
     let cur = Cursor {
         at: BitPlace(0),
@@ -811,6 +812,7 @@ pub fn parse(
         &table,
         &mut cells,
         &mut bins,
+        &mut memo,
         cur,
         limit,
         0,

@@ -5,9 +5,10 @@ use mathlib.Core.Path.{_≡_, refl, sym, ap, subst, _∙_}
 use mathlib.Core.List.{List}
 use native.Mathlib.Omega.{arith}
 use lib.Dec.{eqb}
-use lib.ListN.{length, replicate, length-replicate}
+use lib.ListN.{length, getD, replicate, length-replicate}
 use Rattle.blocks.specs.Exponents.{decodeOf, sizeOf, groupsOf, startOf, firstOf, putOf, laidOf}
 use Rattle.blocks.specs.Held.{Held}
+use Rattle.blocks.specs.Memo.{Memo}
 use Rattle.blocks.specs.declared.exponents.Group.{Group}
 use Rattle.blocks.specs.declared.exponents.Group.the-variants.{Refused, Moved}
 use Rattle.alloc.specs.Allocation.{allocation}
@@ -21,7 +22,8 @@ use Rattle.blocks.specs.declared.state.Parameters.{Parameters}
 use Rattle.blocks.specs.declared.state.Parameters.the-variants.{NeverSent, Sent}
 use Rattle.blocks.specs.declared.state.DeltaCode.{DeltaCode}
 use Rattle.blocks.specs.declared.state.DeltaCode.the-variants.{Refused as NotAllowed, Keep, New, Clear}
-use Rattle.blocks.proofs.ExpLaws.{decode-low, put-held, laid-held}
+use Rattle.blocks.proofs.ExpLaws.{decode-low, put-held, laid-held, put-high, laid-high}
+use Rattle.blocks.proofs.MemoLaws.{memo-same}
 use Rattle.blocks.proofs.StateLaws.{pointed-held, allocation-length, never-sent, sent}
 use Rattle.walk.specs.Cells.{State, state, cellOf, putIn, Acted, acted}
 use Rattle.walk.specs.Allocating.{deltaBy, deltaCode, allocateIn, allocStateOf, segmentsIn}
@@ -73,6 +75,29 @@ group-held st h = go (decodeOf (cellOf (st .cells) 280 % 256) (cellOf (st .cells
     go (Moved a b c) e =
         let l = decode-low a b c (cellOf (st .cells) 280 % 256) (cellOf (st .cells) 277 % 256) e in
         laid-held (st .bins) (cellOf (st .cells) 6 % 256) (sizeOf (cellOf (st .cells) 272 % 256)) (cellOf (st .cells) 279) a b c h (l .first) (l .second) (l .third)
+
+-- and leave the pointers, so that what is kept of them stays right
+begin-high : (st : State) (k : ℕ) → 1792 ≤ k → getD (expBegin st .bins) k 0 ≡ getD (st .bins) k 0
+unfolding expBegin
+begin-high st k h = go (eqb (cellOf (st .cells) 6 % 256) 5)
+  where
+    go : (c : Bool) → getD (cond c (st .bins) (putOf (st .bins) (cellOf (st .cells) 6 % 256) 0 (cellOf (st .cells) 275 % 16))) k 0 ≡ getD (st .bins) k 0
+    go true = refl
+    go false = put-high (st .bins) (cellOf (st .cells) 6 % 256) 0 (cellOf (st .cells) 275 % 16) k h
+
+group-high : (st : State) (k : ℕ) → 1792 ≤ k → getD (expGroup st .st .bins) k 0 ≡ getD (st .bins) k 0
+unfolding expGroup
+group-high st k h = go (decodeOf (cellOf (st .cells) 280 % 256) (cellOf (st .cells) 277 % 256))
+  where
+    go : (g : Group) → getD (spreadBy g st .st .bins) k 0 ≡ getD (st .bins) k 0
+    go (Refused n) = refl
+    go (Moved a b c) = laid-high (st .bins) (cellOf (st .cells) 6 % 256) (sizeOf (cellOf (st .cells) 272 % 256)) (cellOf (st .cells) 279) a b c k h
+
+pub begin-memo : (mem m b y bb : List ℕ) → Memo mem b → state y bb ≡ expBegin (state m b) → Memo mem bb
+begin-memo mem m b y bb h e = memo-same mem b bb h (λ k l. ap (λ (s : State). getD (s .bins) k 0) e ∙ begin-high (state m b) k l)
+
+pub group-memo : (mem m b y bb : List ℕ) (n : ℕ) → Memo mem b → acted n (state y bb) ≡ expGroup (state m b) → Memo mem bb
+group-memo mem m b y bb n h e = memo-same mem b bb h (λ k l. ap (λ (a : Acted). getD (a .st .bins) k 0) e ∙ group-high (state m b) k l)
 
 delta-held : (st : State) → Held (st .bins) → Held (deltaCode st .st .bins)
 unfolding deltaCode

@@ -6,3 +6,4 @@ pub mod AllocActs
 pub mod Takes
 pub mod Blocks
 pub mod Walks
+pub mod TwoRows

@@ -20,6 +20,7 @@ use Rattle.syntax.specs.declared.Cursor.{Cursor}
 use Rattle.walk.specs.Cells.{State, state, putIn, placeOf, heldOf, sumOf, kept}
 use Rattle.walk.specs.Rows.{holdsOf, countOf, amountOf, rowOf, sum}
 use Rattle.blocks.specs.Held.{Held}
+use Rattle.blocks.specs.Memo.{Memo}
 use Rattle.walk.specs.Acts.{actOf}
 use Rattle.walk.specs.Syntax.{Item, Block, element, span, scan, when, reject, each, put, act, end, _⨾_, ended, turns, item, meaning, row, flat, rowsOf, size}
 use Rattle.walk.specs.Steps.{Moved, moved, asked, endOf, stepOf, io, ioOf}
@@ -217,12 +218,13 @@ module _ (s : List ℕ) (l : ℕ) (t : List ℕ) (to : ℕ) where
             cc
 
 -- the loop over the rows, at pc: what is left to do is a block that stands from there
-pub record RowsInv (s : List ℕ) (l : ℕ) (t : List ℕ) (from to : ℕ) (c₀ : Cursor) (st₀ : State) (m₀ : Room) (c : Cursor) (st : State) (m : Room) (pc : ℕ) : Type 0 where
+pub record RowsInv (s : List ℕ) (l : ℕ) (t : List ℕ) (from to : ℕ) (c₀ : Cursor) (st₀ : State) (m₀ : Room) (c : Cursor) (st : State) (m : Room) (mem : List ℕ) (pc : ℕ) : Type 0 where
   pub same : Same m₀ m
   pub past : from ≤ pc
   pub within : pc ≤ to
   pub live : pc < to → c .stopped ≡ false
   pub held : Held (st .bins)
+  pub right : Memo mem (st .bins)
   pub rest : (b : Block) → Stands t b from to → (r : Block) × Stands t r pc to × (exec s l (meaning b st₀) (c₀ .at .0) (c₀ .count) m₀ ≡ (told c st m then on s l t to r))
 
 if-le : (b : Bool) (x y : ℕ) → y ≤ x → cond b x y ≤ x
@@ -238,13 +240,14 @@ if-live true x y h = absurd (let z : ⊥ = omega arith in z)
 if-live false x y h = refl
 
 module _ (s : List ℕ) (l : ℕ) (t : List ℕ) (from to : ℕ) (c₀ : Cursor) (st₀ : State) (m₀ : Room) where
-  pub rows-start : Stand s l t (st₀ .bins) c₀ from to → RowsInv s l t from to c₀ st₀ m₀ c₀ st₀ m₀ from
-  rows-start h = record {
+  pub rows-start : (mem : List ℕ) → Stand s l t (st₀ .bins) mem c₀ from to → RowsInv s l t from to c₀ st₀ m₀ c₀ st₀ m₀ mem from
+  rows-start mem h = record {
     same = same-refl m₀;
     past = omega arith;
     within = omega (arith, h .stands .ends);
     live = λ _. h .live;
     held = h .held;
+    right = h .right;
     rest = λ b p. (b, p, sym (told-live c₀ st₀ m₀ (on s l t to b) (h .live)));
   }
 
@@ -261,10 +264,10 @@ module _ (s : List ℕ) (l : ℕ) (t : List ℕ) (from to : ℕ) (c₀ : Cursor)
       go true q = (end, end-stands b h, told-stopped c st m _ _ q)
       go false q = (u, k, refl)
 
-  module _ (c : Cursor) (st : State) (m : Room) (pc : ℕ) (inv : RowsInv s l t from to c₀ st₀ m₀ c st m pc) where
-    pub rows-end : to ≤ pc → Ran s l t from to c₀ st₀ m₀ c st m
+  module _ (c : Cursor) (st : State) (m : Room) (mem : List ℕ) (pc : ℕ) (inv : RowsInv s l t from to c₀ st₀ m₀ c st m mem pc) where
+    pub rows-end : to ≤ pc → Ran s l t from to c₀ st₀ m₀ c st m mem
     unfolding meaning flat exec
-    rows-end h = record { held = inv .held; runs = λ b p. let q = inv .rest b p in go b (q .0) (q .1) (q .2) }
+    rows-end h = record { held = inv .held; right = inv .right; runs = λ b p. let q = inv .rest b p in go b (q .0) (q .1) (q .2) }
       where
         go : (b r : Block) → Stands t r pc to → exec s l (meaning b st₀) (c₀ .at .0) (c₀ .count) m₀ ≡ (told c st m then on s l t to r) → told c st m ≡ exec s l (meaning b st₀) (c₀ .at .0) (c₀ .count) m₀
         go b end k e = sym (e ∙ then-done (told c st m))
@@ -281,7 +284,10 @@ module _ (s : List ℕ) (l : ℕ) (t : List ℕ) (from to : ℕ) (c₀ : Cursor)
             none (act j x) r k = omega (arith, k .ends)
 
     -- a row that came to something
-    module _ (less : pc < to) (x : Next) (st′ : State) (e : moved x st′ ≡ stepOf (rowOf (getD t pc 0)) (c .at .0) st) where
+    module _ (less : pc < to) (x : Next) (st′ : State) (mem′ : List ℕ) (on-step : (moved x st′ ≡ stepOf (rowOf (getD t pc 0)) (c .at .0) st) × Memo mem′ (st′ .bins)) where
+      e : moved x st′ ≡ stepOf (rowOf (getD t pc 0)) (c .at .0) st
+      e = on-step .0
+
       came : (b : Block) → Stands t b pc to → Follows s l t to b pc (c .at .0) st x st′
       came b h = subst (λ (o : Moved). Follows s l t to b pc (c .at .0) st (o .next) (o .st)) (sym e) (step-law s l t to pc less (c .at .0) st b h)
 
@@ -294,20 +300,21 @@ module _ (s : List ℕ) (l : ℕ) (t : List ℕ) (from to : ℕ) (c₀ : Cursor)
       pub go-within : (b : Block) → Stands t b from to → (k : ℕ) → x ≡ Go k → pc + 1 + k ≤ to
       go-within b h k ek = let q = inv .rest b h in let f = subst (λ (y : Next). Follows s l t to (q .0) pc (c .at .0) st y st′) ek (came (q .0) (q .1)) in omega (arith, f .1 .ends)
 
-      pub rows-go : (b₀ : Block) → Stands t b₀ from to → (k : ℕ) → x ≡ Go k → RowsInv s l t from to c₀ st₀ m₀ c st′ m (pc + 1 + k)
+      pub rows-go : (b₀ : Block) → Stands t b₀ from to → (k : ℕ) → x ≡ Go k → RowsInv s l t from to c₀ st₀ m₀ c st′ m mem′ (pc + 1 + k)
       rows-go b₀ h₀ k ek = record {
         same = inv .same;
         past = omega (arith, inv .past);
         within = go-within b₀ h₀ k ek;
         live = λ _. inv .live less;
         held = came-held;
+        right = on-step .1;
         rest = λ b h.
             let q = inv .rest b h in
             let f = subst (λ (y : Next). Follows s l t to (q .0) pc (c .at .0) st y st′) ek (came (q .0) (q .1)) in
             (f .0, f .1, q .2 ∙ alive (q .0) ∙ f .2 (c .count) m ∙ sym (told-live c st′ m (on s l t to (f .0)) (inv .live less)));
       }
 
-      pub rows-stop : (k : ℕ) → x ≡ Stop k → (d : Cursor) → d ≡ haltedAt (c .at .0) (c .count) k → RowsInv s l t from to c₀ st₀ m₀ d st′ m to
+      pub rows-stop : (k : ℕ) → x ≡ Stop k → (d : Cursor) → d ≡ haltedAt (c .at .0) (c .count) k → RowsInv s l t from to c₀ st₀ m₀ d st′ m mem′ to
       unfolding go-on
       rows-stop k ek d ed = record {
         same = inv .same;
@@ -315,6 +322,7 @@ module _ (s : List ℕ) (l : ℕ) (t : List ℕ) (from to : ℕ) (c₀ : Cursor)
         within = omega arith;
         live = λ h. absurd (let z : ⊥ = omega arith in z);
         held = came-held;
+        right = on-step .1;
         rest = λ b h.
             let q = inv .rest b h in
             let f = subst (λ (y : Next). Follows s l t to (q .0) pc (c .at .0) st y st′) ek (came (q .0) (q .1)) in
@@ -322,21 +330,22 @@ module _ (s : List ℕ) (l : ℕ) (t : List ℕ) (from to : ℕ) (c₀ : Cursor)
       }
 
       -- what a row asks for is not too wide
-      pub take-fit : Stand s l t (st₀ .bins) c₀ from to → (a : Ask) → x ≡ Take a → Fit s l (st′ .bins) (a .how)
-      take-fit h a ea =
+      pub take-fit : (mem₀ : List ℕ) → Stand s l t (st₀ .bins) mem₀ c₀ from to → (a : Ask) → x ≡ Take a → Fit s l (st′ .bins) (a .how)
+      take-fit mem₀ h a ea =
           let n : narrow (rowOf (getD t pc 0)) ≡ true = narrow-at t pc (omega (arith, h .stands .room, length-map t rowOf)) (h .table .narrows) in
           let w : wanted (stepOf (rowOf (getD t pc 0)) (c .at .0) st .next) ≤ 32 = wanted-by (rowOf (getD t pc 0)) (c .at .0) st n in
           let z : wanted x ≤ 32 = subst (λ (o : Moved). wanted (o .next) ≤ 32) (sym e) w in
           record { small = subst (λ (y : Next). wanted y ≤ 32) ea z; within = h .within; held = came-held }
 
       pub rows-take : (b₀ : Block) → Stands t b₀ from to → (a : Ask) → x ≡ Take a → (d : Cursor) (y : List ℕ) (mu : Room) → told d (state y (st′ .bins)) mu ≡ ioOf s l a st′ (c .at .0) (c .count) m → Same m mu
-          → (next : ℕ) → next ≡ cond (d .stopped) to (pc + 1) → RowsInv s l t from to c₀ st₀ m₀ d (state y (st′ .bins)) mu next
+          → (next : ℕ) → next ≡ cond (d .stopped) to (pc + 1) → RowsInv s l t from to c₀ st₀ m₀ d (state y (st′ .bins)) mu mem′ next
       rows-take b₀ h₀ a ea d y mu eo sm next en = record {
         same = same-trans _ _ _ (inv .same) sm;
         past = rw en (if-ge (d .stopped) to (pc + 1) from (omega (arith, inv .past, inv .within)) (omega (arith, inv .past)));
         within = rw en (if-le (d .stopped) to (pc + 1) (omega arith));
         live = λ h. if-live (d .stopped) to (pc + 1) (rw (← en) h);
         held = came-held;
+        right = on-step .1;
         rest = λ b h.
             let q = inv .rest b h in
             let f = subst (λ (y : Next). Follows s l t to (q .0) pc (c .at .0) st y st′) ea (came (q .0) (q .1)) in
@@ -355,17 +364,18 @@ module _ (s : List ℕ) (l : ℕ) (t : List ℕ) (from to : ℕ) (c₀ : Cursor)
         pub each-within : (b : Block) → Stands t b from to → pc + 1 + z ≤ to
         each-within b h = omega (arith, loop b h .3 .ends)
 
-        pub each-stands : Stand s l t (st₀ .bins) c₀ from to → Stand s l t (st′ .bins) c (pc + 1) (pc + 1 + z)
-        each-stands h = record { what = loop (h .what) (h .stands) .0; stands = loop (h .what) (h .stands) .2; table = h .table; within = h .within; held = came-held; live = inv .live less }
+        pub each-stands : (mem₀ : List ℕ) → Stand s l t (st₀ .bins) mem₀ c₀ from to → Stand s l t (st′ .bins) mem′ c (pc + 1) (pc + 1 + z)
+        each-stands mem₀ h = record { what = loop (h .what) (h .stands) .0; stands = loop (h .what) (h .stands) .2; table = h .table; within = h .within; held = came-held; right = on-step .1; live = inv .live less }
 
-        pub rows-each : (b₀ : Block) → Stands t b₀ from to → (d : Cursor) (su : State) (mu : Room) → Turned s l t (pc + 1) (pc + 1 + z) i n k c st′ m d su mu → Same m mu
-            → (next : ℕ) → next ≡ cond (d .stopped) to (pc + 1 + z) → RowsInv s l t from to c₀ st₀ m₀ d su mu next
-        rows-each b₀ h₀ d su mu eo sm next ex = record {
+        pub rows-each : (b₀ : Block) → Stands t b₀ from to → (d : Cursor) (su : State) (mu : Room) (memu : List ℕ) → Turned s l t (pc + 1) (pc + 1 + z) i n k c st′ m d su mu memu → Same m mu
+            → (next : ℕ) → next ≡ cond (d .stopped) to (pc + 1 + z) → RowsInv s l t from to c₀ st₀ m₀ d su mu memu next
+        rows-each b₀ h₀ d su mu memu eo sm next ex = record {
           same = same-trans _ _ _ (inv .same) sm;
           past = rw ex (if-ge (d .stopped) to (pc + 1 + z) from (omega (arith, inv .past, inv .within)) (omega (arith, inv .past)));
           within = rw ex (if-le (d .stopped) to (pc + 1 + z) (each-within b₀ h₀));
           live = λ h. if-live (d .stopped) to (pc + 1 + z) (rw (← ex) h);
           held = eo .held;
+          right = eo .right;
           rest = λ b h.
               let q = inv .rest b h in
               let f = loop b h in
@@ -381,10 +391,11 @@ module _ (s : List ℕ) (l : ℕ) (t : List ℕ) (from to : ℕ) (c₀ : Cursor)
 abbrev turning : List ℕ → ℕ → ℕ → ℕ → ℕ → Block → State → ℕ → ℕ → Room → Out State
 turning s l n j k b st p q m = exec s l (turns (n - j) j k (meaning b) st) p q m
 
-pub record EachInv (s : List ℕ) (l : ℕ) (t : List ℕ) (from to i n k : ℕ) (c₀ : Cursor) (st₀ : State) (m₀ : Room) (c : Cursor) (st : State) (m : Room) (j : ℕ) : Type 0 where
+pub record EachInv (s : List ℕ) (l : ℕ) (t : List ℕ) (from to i n k : ℕ) (c₀ : Cursor) (st₀ : State) (m₀ : Room) (c : Cursor) (st : State) (m : Room) (mem : List ℕ) (j : ℕ) : Type 0 where
   pub same : Same m₀ m
   pub live : j < n → c .stopped ≡ false
   pub held : Held (st .bins)
+  pub right : Memo mem (st .bins)
   pub rest : (b : Block) → Stands t b from to → exec s l (turns (n - i) i k (meaning b) st₀) (c₀ .at .0) (c₀ .count) m₀ ≡ (told c st m then turning s l n j k b)
 
 -- one turn more
@@ -401,24 +412,26 @@ turns-none s l n j k b o h = let e : n - j ≡ 0 = omega arith in
     ap (λ (x : ℕ). o then (λ st p q m. exec s l (turns x j k (meaning b) st) p q m)) e ∙ then-done o
 
 module _ (s : List ℕ) (l : ℕ) (t : List ℕ) (from to i n k : ℕ) (c₀ : Cursor) (st₀ : State) (m₀ : Room) where
-  pub turns-start : Stand s l t (st₀ .bins) c₀ from to → EachInv s l t from to i n k c₀ st₀ m₀ c₀ st₀ m₀ i
-  turns-start h = record {
+  pub turns-start : (mem : List ℕ) → Stand s l t (st₀ .bins) mem c₀ from to → EachInv s l t from to i n k c₀ st₀ m₀ c₀ st₀ m₀ mem i
+  turns-start mem h = record {
     same = same-refl m₀;
     live = λ _. h .live;
     held = h .held;
+    right = h .right;
     rest = λ b p. sym (told-live c₀ st₀ m₀ (turning s l n i k b) (h .live));
   }
 
-  module _ (c : Cursor) (st : State) (m : Room) (j : ℕ) (inv : EachInv s l t from to i n k c₀ st₀ m₀ c st m j) where
-    pub turns-end : n ≤ j → Turned s l t from to i n k c₀ st₀ m₀ c st m
-    turns-end h = record { held = inv .held; runs = λ b p. sym (inv .rest b p ∙ turns-none s l n j k b (told c st m) h) }
+  module _ (c : Cursor) (st : State) (m : Room) (mem : List ℕ) (j : ℕ) (inv : EachInv s l t from to i n k c₀ st₀ m₀ c st m mem j) where
+    pub turns-end : n ≤ j → Turned s l t from to i n k c₀ st₀ m₀ c st m mem
+    turns-end h = record { held = inv .held; right = inv .right; runs = λ b p. sym (inv .rest b p ∙ turns-none s l n j k b (told c st m) h) }
 
-    pub turns-on : j < n → (x : List ℕ) → x ≡ putIn (st .cells) k j → (d : Cursor) (su : State) (mu : Room) → Ran s l t from to c (state x (st .bins)) m d su mu → Same m mu
-        → (next : ℕ) → next ≡ cond (d .stopped) n (j + 1) → EachInv s l t from to i n k c₀ st₀ m₀ d su mu next
-    turns-on less x ex d su mu eo sm next en = record {
+    pub turns-on : j < n → (x : List ℕ) → x ≡ putIn (st .cells) k j → (d : Cursor) (su : State) (mu : Room) (memu : List ℕ) → Ran s l t from to c (state x (st .bins)) m d su mu memu → Same m mu
+        → (next : ℕ) → next ≡ cond (d .stopped) n (j + 1) → EachInv s l t from to i n k c₀ st₀ m₀ d su mu memu next
+    turns-on less x ex d su mu memu eo sm next en = record {
       same = same-trans _ _ _ (inv .same) sm;
       live = λ h. if-live (d .stopped) n (j + 1) (rw (← en) h);
       held = eo .held;
+      right = eo .right;
       rest = λ b p.
           inv .rest b p ∙ told-live c st m (turning s l n j k b) (inv .live less) ∙ turns-more s l n j k b st (c .at .0) (c .count) m less
           ∙ ap (λ (o : Out State). o then turning s l n (j + 1) k b) (sym (eo .runs b p ∙ (rw ex)))
@@ -429,12 +442,15 @@ module _ (s : List ℕ) (l : ℕ) (t : List ℕ) (from to i n k : ℕ) (c₀ : C
         onto b true q = told-stopped d su mu _ _ q
         onto b false q = let z : next ≡ j + 1 = en ∙ ap (λ (y : Bool). cond y n (j + 1)) q in rw z
 
-    pub turns-stand : j < n → Stand s l t (st₀ .bins) c₀ from to → Stand s l t (st .bins) c from to
-    turns-stand less h = record { what = h .what; stands = h .stands; table = h .table; within = h .within; held = inv .held; live = inv .live less }
+    pub turns-stand : j < n → (mem₀ : List ℕ) → Stand s l t (st₀ .bins) mem₀ c₀ from to → Stand s l t (st .bins) mem c from to
+    turns-stand less mem₀ h = record { what = h .what; stands = h .stands; table = h .table; within = h .within; held = inv .held; right = inv .right; live = inv .live less }
 
 -- numbers of the loops
-pub stand-end : {s : List ℕ} {l : ℕ} {t bins : List ℕ} {c : Cursor} {from to : ℕ} → Stand s l t bins c from to → to ≤ 640
+pub stand-end : {s : List ℕ} {l : ℕ} {t bins mem : List ℕ} {c : Cursor} {from to : ℕ} → Stand s l t bins mem c from to → to ≤ 640
 stand-end {t} h = omega (arith, h .stands .room, length-map t rowOf, h .table .sized)
+
+pub within-stand : {s : List ℕ} {l : ℕ} {t bins mem : List ℕ} {c : Cursor} {from to : ℕ} → Stand s l t bins mem c from to → from ≤ to
+within-stand h = omega (arith, h .stands .ends)
 
 pub on-less : (b : Bool) (to pc next : ℕ) → pc < to → next ≡ cond b to (pc + 1) → to - next < to - pc
 on-less true to pc next h e = omega arith

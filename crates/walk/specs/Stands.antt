@@ -10,6 +10,7 @@ use Rattle.syntax.specs.Records.{told}
 use Rattle.syntax.specs.declared.Cursor.{Cursor}
 use Rattle.walk.specs.Cells.{State}
 use Rattle.blocks.specs.Held.{Held}
+use Rattle.blocks.specs.Memo.{Memo}
 use Rattle.walk.specs.Rows.{rowOf}
 use Rattle.walk.specs.Syntax.{Block, flat, size, turns, meaning}
 use Rattle.walk.specs.declared.table.Row.{Row}
@@ -43,13 +44,14 @@ pub record Table (t : List ℕ) : Type 0 where
   pub sized : length t ≡ 640
   pub narrows : allNarrow (map rowOf t) ≡ true
 
--- the rows of some block stand there, the frame ends within the data, no exponent is too large, and the run is not stopped
-pub record Stand (s : List ℕ) (l : ℕ) (t bins : List ℕ) (c : Cursor) (from to : ℕ) : Type 0 where
+-- the rows of some block stand there, the frame ends within the data, no exponent is too large, what is kept of allocations is right, and the run is not stopped
+pub record Stand (s : List ℕ) (l : ℕ) (t bins mem : List ℕ) (c : Cursor) (from to : ℕ) : Type 0 where
   pub what : Block
   pub stands : Stands t what from to
   pub table : Table t
   pub within : l ≤ 8 * length s
   pub held : Held bins
+  pub right : Memo mem bins
   pub live : c .stopped ≡ false
 
 -- what one input row asks
@@ -64,11 +66,13 @@ pub record Fit (s : List ℕ) (l : ℕ) (bins : List ℕ) (how : How) : Type 0 w
   pub held : Held bins
 
 -- a run of the rows is the tree of each block that they are
-pub record Ran (s : List ℕ) (l : ℕ) (t : List ℕ) (from to : ℕ) (c : Cursor) (st : State) (m : Room) (c′ : Cursor) (st′ : State) (m′ : Room) : Type 0 where
+pub record Ran (s : List ℕ) (l : ℕ) (t : List ℕ) (from to : ℕ) (c : Cursor) (st : State) (m : Room) (c′ : Cursor) (st′ : State) (m′ : Room) (mem′ : List ℕ) : Type 0 where
   pub runs : (b : Block) → Stands t b from to → told c′ st′ m′ ≡ exec s l (meaning b st) (c .at .0) (c .count) m
   pub held : Held (st′ .bins)
+  pub right : Memo mem′ (st′ .bins)
 
 -- and so for each number from i up to n
-pub record Turned (s : List ℕ) (l : ℕ) (t : List ℕ) (from to i n k : ℕ) (c : Cursor) (st : State) (m : Room) (c′ : Cursor) (st′ : State) (m′ : Room) : Type 0 where
+pub record Turned (s : List ℕ) (l : ℕ) (t : List ℕ) (from to i n k : ℕ) (c : Cursor) (st : State) (m : Room) (c′ : Cursor) (st′ : State) (m′ : Room) (mem′ : List ℕ) : Type 0 where
   pub runs : (b : Block) → Stands t b from to → told c′ st′ m′ ≡ exec s l (turns (n - i) i k (meaning b) st) (c .at .0) (c .count) m
   pub held : Held (st′ .bins)
+  pub right : Memo mem′ (st′ .bins)

@@ -5,6 +5,7 @@ ghost use mathlib.Core.Bool.{cond};
 ghost use lib.Dec.{ltb, eqb};
 ghost use lib.ListN.{length, getD};
 ghost use Rattle.blocks.specs.Held.{Held};
+ghost use Rattle.blocks.specs.Memo.{Memo};
 ghost use Rattle.walk.specs.Cells.{state, putIn, acted};
 ghost use Rattle.walk.specs.CellNames.{WIDTH as widthCell};
 ghost use Rattle.walk.specs.Acts.{frameStrategies, powersBelow, blkstrtinfoBits, expBegin, expGroup, actOf};
@@ -158,9 +159,15 @@ fn exp_group(cells: &mut [u16; 640], bins: &mut [u8; 3584]) -> u8
 }
 
 // The derivation k, with the number x: 0, or a refusal's number.
-pub fn act(k: u8, x: u16, cells: &mut [u16; 640], bins: &mut [u8; 3584]) -> u8
-    requires { ⌜ Held (now bins) ⌝ }
-    ensures { λ r. ⌜ acted r (state (now (cells .exit)) (now (bins .exit))) ≡ actOf k x (state (now (cells .entry)) (now (bins .entry))) ⌝ }
+pub fn act(
+    k: u8,
+    x: u16,
+    cells: &mut [u16; 640],
+    bins: &mut [u8; 3584],
+    memo: &mut [u8; 2128],
+) -> u8
+    requires { ⌜ (Held (now bins)) × Memo (now memo) (now bins) ⌝ }
+    ensures { λ r. ⌜ (acted r (state (now (cells .exit)) (now (bins .exit))) ≡ actOf k x (state (now (cells .entry)) (now (bins .entry)))) × Memo (now (memo .exit)) (now (bins .exit)) ⌝ }
 {
     if k == 1 {
         frame_strategies(cells);
@@ -185,7 +192,7 @@ pub fn act(k: u8, x: u16, cells: &mut [u16; 640], bins: &mut [u8; 3584]) -> u8
         return delta_of(cells);
     }
     if k == 7 {
-        return allocate_in(cells, bins);
+        return allocate_in(cells, bins, memo);
     }
     0
 }

@@ -3,6 +3,7 @@ ghost use mathlib.Core.Path.{_≡_};
 ghost use Prim.Native.Nat.{_+_, _%_, _≤_, _<_};
 ghost use lib.ListN.{length};
 ghost use Rattle.blocks.specs.Held.{Held};
+ghost use Rattle.blocks.specs.Memo.{Memo};
 ghost use mathlib.Core.List.{[]};
 ghost use Rattle.walk.specs.Cells.{state, cellOf, acted};
 ghost use Rattle.walk.specs.Allocating.{bytesOf, loaded, putAll, parametersOf, allocStateOf, segmentsIn, sentOf, putState, freshCells, deltaCode, allocateIn};
@@ -239,13 +240,13 @@ pub fn delta_of(cells: &mut [u16; 640]) -> u8
 }
 
 // Act 7: the pointers of the block.
-pub fn allocate_in(cells: &[u16; 640], bins: &mut [u8; 3584]) -> u8
-    requires { ⌜ Held (now bins) ⌝ }
-    ensures { λ r. ⌜ acted r (state (now (cells .entry)) (now (bins .exit))) ≡ allocateIn (state (now (cells .entry)) (now (bins .entry))) ⌝ }
+pub fn allocate_in(cells: &[u16; 640], bins: &mut [u8; 3584], memo: &mut [u8; 2128]) -> u8
+    requires { ⌜ (Held (now bins)) × Memo (now memo) (now bins) ⌝ }
+    ensures { λ r. ⌜ (acted r (state (now (cells .entry)) (now (bins .exit))) ≡ allocateIn (state (now (cells .entry)) (now (bins .entry)))) × Memo (now (memo .exit)) (now (bins .exit)) ⌝ }
 {
     let fscod = rate(cell_of(cells, FSCOD));
     let st = alloc_state_of(cells);
     let shape = shape_of(cells);
     let d = segments_in(cells);
-    allocate_block(st, fscod, shape, d, bins)
+    allocate_block(st, fscod, shape, d, bins, memo)
 }

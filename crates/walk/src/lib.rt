@@ -4,7 +4,8 @@ mod allocating;
 pub mod cells;
 pub mod inputs;
 pub mod notation;
-mod shapes;
+mod pairs;
+pub mod shapes;
 pub mod steps;
 pub mod table;
 
@@ -18,6 +19,8 @@ use bits::BitPlace;
 use cells::put;
 use inputs::halted;
 use inputs::take;
+use pairs::each_pair;
+use pairs::paired;
 use steps::Next;
 use steps::step;
 use syntax::Cursor;
@@ -41,21 +44,22 @@ pub fn rows(
     table: &[u64; 640],
     cells: &mut [u16; 640],
     bins: &mut [u8; 3584],
+    memo: &mut [u8; 2128],
     cur: Cursor,
     limit: BitPlace,
     from: usize,
     to: usize,
 ) -> Cursor
-    requires { ⌜ Stand (now src) (limit .0) (now table) (now bins) cur from to ⌝ }
+    requires { ⌜ Stand (now src) (limit .0) (now table) (now bins) (now memo) cur from to ⌝ }
     ensures { λ r. ⌜ Ran (now (src .entry)) (limit .0) (now (table .entry)) from to cur (state (now (cells .entry)) (now (bins .entry))) (room (now (names .entry)) (now (blocks .entry)) (now (indexes .entry)) (now (firsts .entry)) (now (widths .entry)) (now (values .entry)))
-        r (state (now (cells .exit)) (now (bins .exit))) (room (now (names .exit)) (now (blocks .exit)) (now (indexes .exit)) (now (firsts .exit)) (now (widths .exit)) (now (values .exit))) ⌝ }
+        r (state (now (cells .exit)) (now (bins .exit))) (room (now (names .exit)) (now (blocks .exit)) (now (indexes .exit)) (now (firsts .exit)) (now (widths .exit)) (now (values .exit))) (now (memo .exit)) ⌝ }
 {
     let mut c = cur;
     let mut pc = from;
     while pc < to {
         let word = table[pc];
         pc += 1;
-        match step(word, cells, bins, c.at) {
+        match step(word, cells, bins, memo, c.at) {
             Next::Go(skip) => {
                 pc += skip as usize;
             }
@@ -94,6 +98,7 @@ pub fn rows(
                     table,
                     cells,
                     bins,
+                    memo,
                     c,
                     limit,
                     pc,
@@ -121,6 +126,7 @@ fn each(
     table: &[u64; 640],
     cells: &mut [u16; 640],
     bins: &mut [u8; 3584],
+    memo: &mut [u8; 2128],
     cur: Cursor,
     limit: BitPlace,
     from: usize,
@@ -129,10 +135,32 @@ fn each(
     n: u32,
     counter: u8,
 ) -> Cursor
-    requires { ⌜ Stand (now src) (limit .0) (now table) (now bins) cur from to ⌝ }
+    requires { ⌜ Stand (now src) (limit .0) (now table) (now bins) (now memo) cur from to ⌝ }
     ensures { λ r. ⌜ Turned (now (src .entry)) (limit .0) (now (table .entry)) from to i n counter cur (state (now (cells .entry)) (now (bins .entry))) (room (now (names .entry)) (now (blocks .entry)) (now (indexes .entry)) (now (firsts .entry)) (now (widths .entry)) (now (values .entry)))
-        r (state (now (cells .exit)) (now (bins .exit))) (room (now (names .exit)) (now (blocks .exit)) (now (indexes .exit)) (now (firsts .exit)) (now (widths .exit)) (now (values .exit))) ⌝ }
+        r (state (now (cells .exit)) (now (bins .exit))) (room (now (names .exit)) (now (blocks .exit)) (now (indexes .exit)) (now (firsts .exit)) (now (widths .exit)) (now (values .exit))) (now (memo .exit)) ⌝ }
 {
+    if paired(table, from, to) {
+        return each_pair(
+            src,
+            names,
+            blocks,
+            indexes,
+            firsts,
+            widths,
+            values,
+            table,
+            cells,
+            bins,
+            memo,
+            cur,
+            limit,
+            from,
+            to,
+            i,
+            n,
+            counter,
+        );
+    }
     let mut c = cur;
     let mut j = i;
     while j < n {
@@ -148,6 +176,7 @@ fn each(
             table,
             cells,
             bins,
+            memo,
             c,
             limit,
             from,

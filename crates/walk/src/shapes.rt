@@ -26,7 +26,7 @@ pub fn flag(cells: &[u16; 640], k: usize) -> bool
     cell_of(cells, k) == 1
 }
 
-// Five flags, or seven, or five values, from the cell k on.
+// Five flags, or seven, or five values, or six, from the cell k on.
 fn five_flags(cells: &[u16; 640], k: usize) -> [bool; 5]
     requires { ⌜ k ≤ 640 ⌝ }
     ensures { λ r. ⌜ r ≡ flagsOf (now (cells .entry)) k 5 ⌝ }
@@ -40,7 +40,7 @@ fn five_flags(cells: &[u16; 640], k: usize) -> [bool; 5]
     ]
 }
 
-fn seven_flags(cells: &[u16; 640], k: usize) -> [bool; 7]
+pub fn seven_flags(cells: &[u16; 640], k: usize) -> [bool; 7]
     requires { ⌜ k ≤ 640 ⌝ }
     ensures { λ r. ⌜ r ≡ flagsOf (now (cells .entry)) k 7 ⌝ }
 {
@@ -65,6 +65,20 @@ fn five_values(cells: &[u16; 640], k: usize) -> [u16; 5]
         cell_of(cells, k + 1 + 1),
         cell_of(cells, k + 1 + 1 + 1),
         cell_of(cells, k + 1 + 1 + 1 + 1),
+    ]
+}
+
+pub fn six_values(cells: &[u16; 640], k: usize) -> [u16; 6]
+    requires { ⌜ k ≤ 640 ⌝ }
+    ensures { λ r. ⌜ r ≡ valuesOf (now (cells .entry)) k 6 ⌝ }
+{
+    [
+        cell_of(cells, k),
+        cell_of(cells, k + 1),
+        cell_of(cells, k + 1 + 1),
+        cell_of(cells, k + 1 + 1 + 1),
+        cell_of(cells, k + 1 + 1 + 1 + 1),
+        cell_of(cells, k + 1 + 1 + 1 + 1 + 1),
     ]
 }
 

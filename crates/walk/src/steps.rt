@@ -2,6 +2,7 @@
 ghost use mathlib.Core.Path.{_≡_};
 ghost use mathlib.Core.Bool.{cond};
 ghost use Rattle.blocks.specs.Held.{Held};
+ghost use Rattle.blocks.specs.Memo.{Memo};
 ghost use Rattle.walk.specs.Cells.{state};
 ghost use Rattle.walk.specs.Rows.{rowOf};
 ghost use Rattle.walk.specs.Steps.{asked, endOf, moved, stepOf};
@@ -46,7 +47,7 @@ pub enum Next {
     Loop(u32, u32, u8, u16),
 }
 
-fn ask_for(name: u8, index: Sum, keep: usize, how: How, cells: &[u16; 640]) -> Ask
+pub fn ask_for(name: u8, index: Sum, keep: usize, how: How, cells: &[u16; 640]) -> Ask
     ensures { λ r. ⌜ r ≡ asked name index keep how (now (cells .entry)) ⌝ }
 {
     let b = cell_of(cells, BLOCK);
@@ -78,9 +79,15 @@ fn end_of(n: u8) -> Next
     if n == 0 { Next::Go(0) } else { Next::Stop(n) }
 }
 
-pub fn step(word: u64, cells: &mut [u16; 640], bins: &mut [u8; 3584], here: BitPlace) -> Next
-    requires { ⌜ Held (now bins) ⌝ }
-    ensures { λ r. ⌜ moved r (state (now (cells .exit)) (now (bins .exit))) ≡ stepOf (rowOf word) (here .0) (state (now (cells .entry)) (now (bins .entry))) ⌝ }
+pub fn step(
+    word: u64,
+    cells: &mut [u16; 640],
+    bins: &mut [u8; 3584],
+    memo: &mut [u8; 2128],
+    here: BitPlace,
+) -> Next
+    requires { ⌜ (Held (now bins)) × Memo (now memo) (now bins) ⌝ }
+    ensures { λ r. ⌜ (moved r (state (now (cells .exit)) (now (bins .exit))) ≡ stepOf (rowOf word) (here .0) (state (now (cells .entry)) (now (bins .entry)))) × Memo (now (memo .exit)) (now (bins .exit)) ⌝ }
 {
     match decode(word) {
         Row::Element {
@@ -125,7 +132,7 @@ pub fn step(word: u64, cells: &mut [u16; 640], bins: &mut [u8; 3584], here: BitP
             Next::Go(0)
         }
         Row::Do { act: k, with } => {
-            let n = act(k, with, cells, bins);
+            let n = act(k, with, cells, bins, memo);
             end_of(n)
         }
     }

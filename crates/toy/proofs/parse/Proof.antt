@@ -1,5 +1,6 @@
 use Rattle.toy.proofs.Answers.{answered, held-start}
 use Rattle.toy.specs.Toy.{frame}
+use Rattle.blocks.proofs.MemoLaws.{memo-fresh}
 use Rattle.walk.specs.Stands.{Stand, Stands, allNarrow}
 use Rattle.walk.specs.Syntax.{flat}
 use Rattle.walk.specs.Rows.{rowOf, condOf, valueOf, boundOf}
@@ -18,7 +19,7 @@ limit-of-requires c κs = search needs
 
 rows-requires : tie.Need-rows-requires
 unfolding rowOf condOf valueOf boundOf flat frame allNarrow
-rows-requires c κs = record { what = frame; stands = record { rows = refl; ends = refl; room = omega arith }; table = record { sized = refl; narrows = refl }; within = c .before .before .before .before .before .before .before .before .before .limit-of .ensures .1; held = held-start; live = refl }
+rows-requires c κs = record { what = frame; stands = record { rows = refl; ends = refl; room = omega arith }; table = record { sized = refl; narrows = refl }; within = c .before .before .before .before .before .before .before .before .before .before .limit-of .ensures .1; held = held-start; right = memo-fresh _; live = refl }
 
 same-length : tie.Need-same-length
 same-length c = search needs
@@ -40,7 +41,7 @@ same-length-6 c = search needs
 
 returns : tie.Need-returns
 unfolding rowOf condOf valueOf boundOf flat frame
-returns c = answered _ _ _ (c .before .before .before .before .before .before .before .before .before .before .rows .result) _ _ (c .before .before .before .before .before .before .before .before .before .before .before .before .before .before .before .before .before .before .before .before .limit-of .ensures .0) (c .before .before .before .before .before .before .before .before .before .before .rows .ensures .runs frame (record { rows = refl; ends = refl; room = omega arith }))
+returns c = answered _ _ _ (c .before .before .before .before .before .before .before .before .before .before .rows .result) _ _ (c .before .before .before .before .before .before .before .before .before .before .before .before .before .before .before .before .before .before .before .before .before .limit-of .ensures .0) (c .before .before .before .before .before .before .before .before .before .before .rows .ensures .runs frame (record { rows = refl; ends = refl; room = omega arith }))
 
 pub parse-spec : {M : Type 1} → statement M
 parse-spec =

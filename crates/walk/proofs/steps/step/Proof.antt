@@ -96,42 +96,42 @@ enum-known-k : tie.Need-enum-known-k
 enum-known-k c = search needs
 
 act-requires : tie.Need-act-requires
-act-requires c κs = search needs
+act-requires c κs = c .before .before .before .before .before .before .before .pre
 
 end-of-requires : tie.Need-end-of-requires
 end-of-requires c κs = search needs
 
 returns : tie.Need-returns
 unfolding stepOf
-returns c = rw (← c .before .before .before .before .before .before .before .decode .ensures, c .before .before .before .before .before .name .given .1, c .ask-for .ensures, c .before .before .place .ensures)
+returns c = (rw (← c .before .before .before .before .before .before .before .decode .ensures, c .before .before .before .before .before .name .given .1, c .ask-for .ensures, c .before .before .place .ensures), c .before .before .before .before .before .before .before .before .pre .1)
 
 returns-2 : tie.Need-returns-2
 unfolding stepOf
-returns-2 c = rw (← c .before .before .before .before .before .before .before .decode .ensures, c .before .before .before .before .before .name2 .given .1, c .ask-for2 .ensures, c .before .before .held .ensures)
+returns-2 c = (rw (← c .before .before .before .before .before .before .before .decode .ensures, c .before .before .before .before .before .name2 .given .1, c .ask-for2 .ensures, c .before .before .held .ensures), c .before .before .before .before .before .before .before .before .pre .1)
 
 returns-3 : tie.Need-returns-3
 unfolding stepOf
-returns-3 c = rw (← c .before .before .before .before .before .before .before .decode .ensures, c .before .before .before .before .before .name3 .given .1, c .ask-for3 .ensures, c .before .before .place2 .ensures)
+returns-3 c = (rw (← c .before .before .before .before .before .before .before .decode .ensures, c .before .before .before .before .before .name3 .given .1, c .ask-for3 .ensures, c .before .before .place2 .ensures), c .before .before .before .before .before .before .before .before .pre .1)
 
 returns-4 : tie.Need-returns-4
 unfolding stepOf
-returns-4 c = rw (← c .before .before .before .before .before .before .decode .ensures, c .before .before .before .before .cond .given .1, c .skip-unless .ensures, c .before .holds .ensures)
+returns-4 c = (rw (← c .before .before .before .before .before .before .decode .ensures, c .before .before .before .before .cond .given .1, c .skip-unless .ensures, c .before .holds .ensures), c .before .before .before .before .before .before .before .pre .1)
 
 returns-5 : tie.Need-returns-5
 unfolding stepOf
-returns-5 c = rw (← c .before .before .before .before .before .before .decode .ensures, c .before .before .before .before .cond2 .given .1, c .stop-if .ensures, c .before .holds2 .ensures)
+returns-5 c = (rw (← c .before .before .before .before .before .before .decode .ensures, c .before .before .before .before .cond2 .given .1, c .stop-if .ensures, c .before .holds2 .ensures), c .before .before .before .before .before .before .before .pre .1)
 
 returns-6 : tie.Need-returns-6
 unfolding stepOf
-returns-6 c = rw (← c .before .before .before .before .before .before .before .decode .ensures, c .before .before .before .before .before .counter .given .1, c .count-of .ensures, c .before .before .sum-of .ensures)
+returns-6 c = (rw (← c .before .before .before .before .before .before .before .decode .ensures, c .before .before .before .before .before .counter .given .1, c .count-of .ensures, c .before .before .sum-of .ensures), c .before .before .before .before .before .before .before .before .pre .1)
 
 returns-7 : tie.Need-returns-7
 unfolding stepOf
-returns-7 c = rw (← c .before .before .before .before .before .before .before .before .before .decode .ensures, c .before .before .before .before .before .before .before .at .given .1, c .put .ensures, c .before .before .amount-of .ensures, c .before .before .before .before .place3 .ensures)
+returns-7 c = (rw (← c .before .before .before .before .before .before .before .before .before .decode .ensures, c .before .before .before .before .before .before .before .at .given .1, c .put .ensures, c .before .before .amount-of .ensures, c .before .before .before .before .place3 .ensures), c .before .before .before .before .before .before .before .before .before .before .pre .1)
 
 returns-8 : tie.Need-returns-8
 unfolding stepOf
-returns-8 c = rw (← c .before .before .before .before .before .before .before .decode .ensures, c .before .before .before .before .before .k .given .1, c .end-of .ensures) (ap (λ (a : Acted). moved (endOf (a .number)) (a .st)) (c .before .act .ensures))
+returns-8 c = (rw (← c .before .before .before .before .before .before .before .before .decode .ensures, c .before .before .before .before .before .before .k .given .1, c .end-of .ensures) (ap (λ (a : Acted). moved (endOf (a .number)) (a .st)) (c .before .act .ensures .0)), c .before .act .ensures .1)
 
 pub step-spec : {M : Type 1} → statement M
 step-spec =
