@@ -2,3 +2,4 @@ pub mod Halves
 pub mod Gives
 pub mod Header
 pub mod Edges
+pub mod Parts

@@ -8,4 +8,6 @@ pub mod Audblk
 pub mod Annex
 pub mod Rows
 pub mod Frame
+pub mod Answer
+pub mod Parts
 pub mod Edges

@@ -1,0 +1,23 @@
+use mathlib.Core.Path.{refl}
+use borrow.Author.Needs.{needs}
+use Rattle.eac3.proofs.answer.answer_of.Statement.{statement}
+use Rattle.eac3.proofs.answer.answer_of.Tie as tie
+use Rattle.eac3.proofs.answer.answer_of.Reads as reads
+use Rattle.eac3.proofs.answer.answer_of.Lts as lts
+use Rattle.eac3.proofs.answer.frame_of.Reads as frame-of-reads
+use Rattle.eac3.proofs.answer.none.Reads as none-reads
+
+none-requires : tie.Need-none-requires
+none-requires c κs = search needs
+
+returns : tie.Need-returns
+returns c = rw (c .none .ensures, c .before .if1 .taken) refl
+
+frame-of-requires : tie.Need-frame-of-requires
+frame-of-requires c κs = search needs
+
+returns-2 : tie.Need-returns-2
+returns-2 c = rw (c .frame-of .ensures, c .before .if1 .left) refl
+
+pub answer-of-spec : {M : Type 1} → statement M
+answer-of-spec = tie.close (tie.spec none-requires returns frame-of-requires returns-2)

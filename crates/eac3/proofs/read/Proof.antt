@@ -1,0 +1,58 @@
+use Rattle.eac3.proofs.Parts.{held-start, small-size, begins}
+use native.Mathlib.Omega.{arith}
+use mathlib.Core.Path.{refl, sym, subst, _∙_}
+use Rattle.blocks.specs.Held.{Held}
+use Rattle.eac3.specs.Annex.{header}
+use borrow.Author.Needs.{needs}
+use Rattle.eac3.proofs.read.Statement.{statement}
+use Rattle.eac3.proofs.read.Tie as tie
+use Rattle.eac3.proofs.read.Reads as reads
+use Rattle.eac3.proofs.read.Lts as lts
+use Rattle.eac3.proofs.sized.Reads as sized-reads
+use Rattle.syntax.proofs.going.Reads as going-reads
+use Rattle.walk.proofs.rows.Reads as rows-reads
+
+going-requires : tie.Need-going-requires
+going-requires c κs = search needs
+
+rows-requires : tie.Need-rows-requires
+rows-requires c κs = record { what = header; stands = c .before .before .before .before .before .before .before .before .before .before .before .before .before .before .before .pre .annexed .headed; table = c .before .before .before .before .before .before .before .before .before .before .before .before .before .before .before .pre .annexed .table; within = omega (arith, c .before .before .before .before .before .before .before .before .before .before .before .before .before .before .before .pre .six); held = subst Held (sym (c .before .before .before .before .before .before .before .before .before .before .before .before .before .before .before .pre .no-bins)) held-start; right = c .before .before .before .before .before .before .before .before .before .before .before .before .before .before .before .pre .right; live = rw (c .going .ensures) refl }
+
+sized-requires : tie.Need-sized-requires
+sized-requires c κs = record { annexed = c .before .before .before .before .before .before .before .before .before .before .before .before .before .before .before .before .before .before .before .before .before .before .before .before .before .before .before .before .before .before .before .before .before .before .before .pre .annexed; held = c .before .before .before .before .before .before .before .before .before .before .before .before .before .before .before .before .before .before .before .rows .ensures .held; right = c .before .before .before .before .before .before .before .before .before .before .before .before .before .before .before .before .before .before .before .rows .ensures .right; small = small-size _ _ (c .before .before .before .before .before .before .before .before .before .before .before .before .before .before .before .before .before .before .before .rows .result) _ _ _ _ (c .before .before .before .before .before .before .before .before .before .before .before .before .before .before .before .before .before .before .before .before .before .before .before .before .before .before .before .before .before .before .before .before .before .before .before .pre .no-cells) (c .before .before .before .before .before .before .before .before .before .before .before .before .before .before .before .before .before .before .before .before .before .before .before .before .before .before .before .before .before .before .before .before .before .before .before .pre .no-bins) _ (c .before .before .before .before .before .before .before .before .before .before .before .before .before .before .before .before .before .before .before .before .going .ensures) (c .before .before .before .before .before .before .before .before .before .before .before .before .before .before .before .before .before .before .before .rows .ensures .runs header (c .before .before .before .before .before .before .before .before .before .before .before .before .before .before .before .before .before .before .before .before .before .before .before .before .before .before .before .before .before .before .before .before .before .before .before .pre .annexed .headed)) }
+
+same-length : tie.Need-same-length
+same-length c = search needs
+
+same-length-2 : tie.Need-same-length-2
+same-length-2 c = search needs
+
+same-length-3 : tie.Need-same-length-3
+same-length-3 c = search needs
+
+same-length-4 : tie.Need-same-length-4
+same-length-4 c = search needs
+
+same-length-5 : tie.Need-same-length-5
+same-length-5 c = search needs
+
+same-length-6 : tie.Need-same-length-6
+same-length-6 c = search needs
+
+returns : tie.Need-returns
+returns c = c .before .before .before .before .before .before .before .before .before .before .sized .ensures ∙ begins _ _ (c .before .before .before .before .before .before .before .before .before .before .before .before .before .before .before .before .before .before .before .before .before .before .before .before .before .before .before .before .before .before .rows .result) _ _ _ _ (c .before .before .before .before .before .before .before .before .before .before .before .before .before .before .before .before .before .before .before .before .before .before .before .before .before .before .before .before .before .before .before .before .before .before .before .before .before .before .before .before .before .before .before .before .before .before .pre .no-cells) (c .before .before .before .before .before .before .before .before .before .before .before .before .before .before .before .before .before .before .before .before .before .before .before .before .before .before .before .before .before .before .before .before .before .before .before .before .before .before .before .before .before .before .before .before .before .before .pre .no-bins) _ (c .before .before .before .before .before .before .before .before .before .before .before .before .before .before .before .before .before .before .before .before .before .before .before .before .before .before .before .before .before .before .before .going .ensures) (c .before .before .before .before .before .before .before .before .before .before .before .before .before .before .before .before .before .before .before .before .before .before .before .before .before .before .before .before .before .before .rows .ensures .runs header (c .before .before .before .before .before .before .before .before .before .before .before .before .before .before .before .before .before .before .before .before .before .before .before .before .before .before .before .before .before .before .before .before .before .before .before .before .before .before .before .before .before .before .before .before .before .before .pre .annexed .headed))
+
+pub read-spec : {M : Type 1} → statement M
+read-spec =
+    tie.close
+    (tie.spec
+    going-requires
+    rows-requires
+    sized-requires
+    same-length
+    same-length-2
+    same-length-3
+    same-length-4
+    same-length-5
+    same-length-6
+    returns)

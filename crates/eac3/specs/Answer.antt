@@ -1,0 +1,105 @@
+-- What the entry answers: the outcome of the frame's definition, with its records in the room.
+use mathlib.Core.Path.{_≡_}
+use mathlib.Core.Bool.{true, false, cond}
+use mathlib.Core.List.{List}
+use Prim.Native.Nat.{ℕ, _*_, _/_}
+use lib.ListN.{replicate}
+use Rattle.reading.specs.Frame.{parse}
+use Rattle.reading.specs.Run.{Result, accepted, refused}
+use Rattle.reading.specs.Room.{Room, size, cut, Out, into}
+use Rattle.syntax.specs.Records.{resultOf}
+use Rattle.syntax.specs.declared.Cursor.{Cursor}
+use Rattle.walk.specs.Cells.{State, cellOf}
+use Rattle.walk.specs.Shapes.{flagOf, flagsOf, valuesOf}
+use Rattle.walk.specs.CellNames.{FSCOD, LFEON, NUMBLKS, AHTINU}
+use Rattle.eac3.specs.Cells.{BSID, ACMOD, STRMTYP, SUBSTREAMID, BLOCK-STARTS, MANTISSA-STARTS, AUDIO-END, AHT-TAGS, SPX-BLOCKS, CPL-BLOCKS}
+use Rattle.eac3.specs.Frame.{eac3}
+use Rattle.eac3.specs.declared.answer.Frame.{Frame}
+use Rattle.eac3.specs.declared.answer.Answer.{Answer}
+use Rattle.eac3.specs.declared.answer.Verdict.{Verdict}
+use Rattle.eac3.specs.declared.answer.Verdict.the-variants.{Accepted, Refused}
+
+-- a buffer read with a room for records: the definition's outcome, cut at the room
+abbrev pub answered : List ℕ → Room → Out State
+answered s m = into 0 m (cut (size m) (parse eac3 s))
+
+-- what the cells tell of an accepted frame that ends at the place p, with n records
+abbrev pub frameOf : List ℕ → ℕ → ℕ → Frame
+frameOf m p n = record {
+  bytes = record { 0 = p / 8 };
+  fields = n;
+  bsid = cellOf m BSID;
+  acmod = cellOf m ACMOD;
+  lfeon = flagOf m LFEON;
+  fscod = cellOf m FSCOD;
+  strmtyp = cellOf m STRMTYP;
+  substreamid = cellOf m SUBSTREAMID;
+  numblks = cellOf m NUMBLKS;
+  «block_starts» = valuesOf m BLOCK-STARTS 6;
+  «mantissa_starts» = valuesOf m MANTISSA-STARTS 6;
+  «audio_end» = record { 0 = cellOf m AUDIO-END };
+  «aht_tags» = cellOf m AHT-TAGS;
+  «aht_slots» = flagsOf m AHTINU 7;
+  «spx_blocks» = cellOf m SPX-BLOCKS;
+  «cpl_blocks» = cellOf m CPL-BLOCKS;
+}
+
+-- after a refusal all is 0 or no
+abbrev pub nothing : Frame
+nothing = record {
+  bytes = record { 0 = 0 };
+  fields = 0;
+  bsid = 0;
+  acmod = 0;
+  lfeon = false;
+  fscod = 0;
+  strmtyp = 0;
+  substreamid = 0;
+  numblks = 0;
+  «block_starts» = replicate 6 0;
+  «mantissa_starts» = replicate 6 0;
+  «audio_end» = record { 0 = 0 };
+  «aht_tags» = 0;
+  «aht_slots» = replicate 7 false;
+  «spx_blocks» = 0;
+  «cpl_blocks» = 0;
+}
+
+abbrev pub answerBy : Result State → ℕ → ℕ → Answer
+answerBy (accepted st) p n = record { verdict = Accepted; frame = frameOf (st .cells) p n }
+answerBy (refused k) p n = record { verdict = Refused k p n; frame = nothing }
+
+-- the answer of an outcome
+unfoldable pub answerOf : Out State → Answer
+answerOf o = answerBy (o .result) (o .place) (o .count)
+
+-- a call of the entry with a buffer and a room: the answer that it gives, and the room then
+pub record Called (s : List ℕ) (m : Room) (a : Answer) (m′ : Room) : Type 0 where
+  pub answer : a ≡ answerOf (answered s m)
+  pub left : m′ ≡ answered s m .left
+
+-- the same of a cursor
+abbrev pub toldOf : Cursor → List ℕ → Answer
+toldOf c m = cond (c .stopped) (record { verdict = Refused (c .number) (c .at .0) (c .count); frame = nothing }) (record { verdict = Accepted; frame = frameOf m (c .at .0) (c .count) })
+
+-- document 01's number of an answer, 0 for an accepted frame; its place; and the records that were written
+abbrev pub numberBy : Verdict → ℕ
+numberBy Accepted = 0
+numberBy (Refused k p n) = k
+
+abbrev pub numberOf : Answer → ℕ
+numberOf a = numberBy (a .verdict)
+
+abbrev pub placeBy : Verdict → Frame → ℕ
+placeBy Accepted f = 8 * f .bytes .0
+placeBy (Refused k p n) f = p
+
+abbrev pub placeOf : Answer → ℕ
+placeOf a = placeBy (a .verdict) (a .frame)
+
+abbrev pub countBy : Verdict → Frame → ℕ
+countBy Accepted f = f .fields
+countBy (Refused k p n) f = n
+
+abbrev pub countOf : Answer → ℕ
+countOf a = countBy (a .verdict) (a .frame)

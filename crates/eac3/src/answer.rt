@@ -1,0 +1,126 @@
+// What the entry answers: an accepted frame, or one numbered refusal.
+ghost use mathlib.Core.Path.{_≡_};
+ghost use Rattle.walk.specs.Cells.{state};
+ghost use Rattle.eac3.specs.Answer.{nothing, frameOf, answerOf, toldOf};
+use crate::cells as c;
+use bits::BitPlace;
+use bits::ByteCount;
+use syntax::Cursor;
+use walk::cells::AHTINU;
+use walk::cells::FSCOD;
+use walk::cells::LFEON;
+use walk::cells::NUMBLKS;
+use walk::cells::cell_of;
+use walk::shapes::flag;
+use walk::shapes::seven_flags;
+use walk::shapes::six_values;
+
+// An accepted frame, or the refusal's number, its bit place, and the records that were written.
+pub enum Verdict {
+    Accepted,
+    Refused(u8, u16, usize),
+}
+
+// What a frame says of itself. The starts of blocks that it has not are 0; after a refusal all is 0 or no.
+pub struct Frame {
+    pub bytes: ByteCount,
+    pub fields: usize,
+    pub bsid: u16,
+    pub acmod: u16,
+    pub lfeon: bool,
+    pub fscod: u16,
+    pub strmtyp: u16,
+    pub substreamid: u16,
+    pub numblks: u16,
+    pub block_starts: [u16; 6],
+    pub mantissa_starts: [u16; 6],
+    pub audio_end: BitPlace,
+    pub aht_tags: u16,
+    pub aht_slots: [bool; 7],
+    pub spx_blocks: u16,
+    pub cpl_blocks: u16,
+}
+
+pub struct Answer {
+    pub verdict: Verdict,
+    pub frame: Frame,
+}
+
+// Nothing is known of a frame.
+fn none() -> Frame
+    ensures { λ r. ⌜ r ≡ nothing ⌝ }
+{
+    Frame {
+        bytes: ByteCount(0),
+        fields: 0,
+        bsid: 0,
+        acmod: 0,
+        lfeon: false,
+        fscod: 0,
+        strmtyp: 0,
+        substreamid: 0,
+        numblks: 0,
+        block_starts: [0; 6],
+        mantissa_starts: [0; 6],
+        audio_end: BitPlace(0),
+        aht_tags: 0,
+        aht_slots: [false; 7],
+        spx_blocks: 0,
+        cpl_blocks: 0,
+    }
+}
+
+// What the cells tell of an accepted frame that ends at a place.
+fn frame_of(cells: &[u16; 640], at: BitPlace, count: usize) -> Frame
+    ensures { λ r. ⌜ r ≡ frameOf (now (cells .entry)) (at .0) count ⌝ }
+{
+    let bytes = at.bytes();
+    let bsid = cell_of(cells, c::BSID as usize);
+    let acmod = cell_of(cells, c::ACMOD as usize);
+    let lfeon = flag(cells, LFEON);
+    let fscod = cell_of(cells, FSCOD);
+    let strmtyp = cell_of(cells, c::STRMTYP as usize);
+    let substreamid = cell_of(cells, c::SUBSTREAMID as usize);
+    let numblks = cell_of(cells, NUMBLKS);
+    let block_starts = six_values(cells, c::BLOCK_STARTS as usize);
+    let mantissa_starts = six_values(cells, c::MANTISSA_STARTS as usize);
+    let audio_end = cell_of(cells, c::AUDIO_END as usize);
+    let aht_tags = cell_of(cells, c::AHT_TAGS as usize);
+    let aht_slots = seven_flags(cells, AHTINU);
+    let spx_blocks = cell_of(cells, c::SPX_BLOCKS as usize);
+    let cpl_blocks = cell_of(cells, c::CPL_BLOCKS as usize);
+    Frame {
+        bytes: bytes,
+        fields: count,
+        bsid: bsid,
+        acmod: acmod,
+        lfeon: lfeon,
+        fscod: fscod,
+        strmtyp: strmtyp,
+        substreamid: substreamid,
+        numblks: numblks,
+        block_starts: block_starts,
+        mantissa_starts: mantissa_starts,
+        audio_end: BitPlace(audio_end),
+        aht_tags: aht_tags,
+        aht_slots: aht_slots,
+        spx_blocks: spx_blocks,
+        cpl_blocks: cpl_blocks,
+    }
+}
+
+// The answer of a reading that has come to its end, or was stopped.
+pub fn answer_of(cur: Cursor, cells: &[u16; 640]) -> Answer
+    ensures { λ r. ⌜ r ≡ toldOf cur (now (cells .entry)) ⌝ }
+{
+    if cur.stopped {
+        return Answer {
+            verdict: Verdict::Refused(cur.number, cur.at.0, cur.count),
+            frame: none(),
+        };
+    }
+    Answer {
+        verdict: Verdict::Accepted,
+        frame: frame_of(cells, cur.at, cur.count),
+    }
+}

@@ -1,0 +1,81 @@
+-- The answer as 34 numbers, for hosts outside.
+use mathlib.Core.Path.{_≡_}
+use mathlib.Core.Bool.{Bool, true, false}
+use mathlib.Core.List.{List, [], _∷_}
+use Prim.Native.Nat.{ℕ, zero, suc, _*_}
+use lib.ListN.{getD, set}
+use Rattle.reading.specs.Room.{Room, Out}
+use Rattle.walk.specs.Cells.{State}
+use Rattle.eac3.specs.Answer.{answerOf, numberOf, numberBy}
+use Rattle.eac3.specs.declared.answer.Answer.{Answer}
+use Rattle.eac3.specs.declared.answer.Verdict.{Verdict}
+use Rattle.eac3.specs.declared.answer.Verdict.the-variants.{Accepted, Refused}
+
+abbrev pub bitOf : Bool → ℕ
+bitOf true = 1
+bitOf false = 0
+
+-- the place of a refusal, or the end of a frame of so many bytes
+abbrev pub placeOf : Verdict → ℕ → ℕ
+placeOf Accepted bytes = 8 * bytes
+placeOf (Refused k p n) bytes = p
+
+-- the records that were written
+abbrev pub countOf : Verdict → ℕ → ℕ
+countOf Accepted fields = fields
+countOf (Refused k p n) fields = n
+
+-- number, place, records; bytes, bsid, acmod, lfeon, fscod, strmtyp, substreamid, numblks; six starts of blocks, six of mantissas; the end of
+-- the audio, tags, seven slots, blocks with spectral extension, blocks with coupling
+unfoldable pub numbersOf : Answer → List ℕ
+numbersOf a =
+    let f = a .frame in
+    let b = f .«block_starts» in
+    let m = f .«mantissa_starts» in
+    let s = f .«aht_slots» in
+    numberBy (a .verdict)
+    ∷ placeOf (a .verdict) (f .bytes .0)
+    ∷ countOf (a .verdict) (f .fields)
+    ∷ f .bytes .0
+    ∷ f .bsid
+    ∷ f .acmod
+    ∷ bitOf (f .lfeon)
+    ∷ f .fscod
+    ∷ f .strmtyp
+    ∷ f .substreamid
+    ∷ f .numblks
+    ∷ getD b 0 0
+    ∷ getD b 1 0
+    ∷ getD b 2 0
+    ∷ getD b 3 0
+    ∷ getD b 4 0
+    ∷ getD b 5 0
+    ∷ getD m 0 0
+    ∷ getD m 1 0
+    ∷ getD m 2 0
+    ∷ getD m 3 0
+    ∷ getD m 4 0
+    ∷ getD m 5 0
+    ∷ f .«audio_end» .0
+    ∷ f .«aht_tags»
+    ∷ bitOf (getD s 0 false)
+    ∷ bitOf (getD s 1 false)
+    ∷ bitOf (getD s 2 false)
+    ∷ bitOf (getD s 3 false)
+    ∷ bitOf (getD s 4 false)
+    ∷ bitOf (getD s 5 false)
+    ∷ bitOf (getD s 6 false)
+    ∷ f .«spx_blocks»
+    ∷ f .«cpl_blocks»
+    ∷ []
+
+-- a list with the first n of some numbers put at its beginning
+unfoldable pub laid : List ℕ → List ℕ → ℕ → List ℕ
+laid m vs zero = m
+laid m vs (suc n) = set (laid m vs n) n (getD vs n 0)
+
+-- what the function tells: the number, the room as the reading left it, and the answer
+pub record Told (o : Out State) (r : ℕ) (m : Room) (before after : List ℕ) : Type 0 where
+  pub number : r ≡ numberOf (answerOf o)
+  pub left : m ≡ o .left
+  pub answer : after ≡ laid before (numbersOf (answerOf o)) 34
