@@ -1,0 +1,77 @@
+-- A call, in the terms of the definition: its answer is the definition's, cut at the room, and its records are the definition's. Assumes nothing.
+use mathlib.Core.Path.{_≡_, refl, ap, sym, _∙_}
+use mathlib.Core.List.{List, map}
+use mathlib.Core.Option.{some}
+use Prim.Native.Nat.{ℕ, _+_, _/_, _≤_, _<_}
+use native.Mathlib.Omega.{arith}
+use native.Mathlib.Nat.{zero-add}
+use lib.ListN.{length, getElem?}
+use Rattle.reading.specs.Run.{Field, Entry, Result, accepted, refused, Outcome}
+use Rattle.reading.specs.Room.{Room, size, cut, fill, Out, into}
+use Rattle.reading.specs.Frame.{parse}
+use Rattle.reading.specs.CommonReading.{list}
+use Rattle.walk.specs.Cells.{State}
+use Rattle.eac3.specs.Frame.{eac3}
+use Rattle.eac3.specs.Answer.{answered, answerBy, answerOf, countOf}
+use Rattle.eac3.specs.declared.answer.Answer.{Answer}
+use Rattle.eac3.specs.declared.answer.Verdict.the-variants.{Accepted, Refused}
+use Rattle.demands.specs.Calls.{Call, recordAt, count, nth, Accepts, Refuses}
+use Rattle.demands.proofs.Rooms.{cut-fits, filled, within}
+
+-- an answer that accepts, and one that refuses
+accepts-by : (r : Result State) (p n : ℕ) → answerBy r p n .verdict ≡ Accepted → (st : State) × (r ≡ accepted st)
+accepts-by (accepted st) p n e = (st, refl)
+accepts-by (refused k) p n e = absurd (let z : _≡_ {A = ℕ} 0 1 = cc in omega arith)
+
+refuses-by : (r : Result State) (p n k q j : ℕ) → answerBy r p n .verdict ≡ Refused k q j → (r ≡ refused k) × ((p ≡ q) × (n ≡ j))
+refuses-by (accepted st) p n k q j e = absurd (let z : _≡_ {A = ℕ} 0 1 = cc in omega arith)
+refuses-by (refused i) p n k q j e = (let z : i ≡ k = cc in ap refused z, ((let z : p ≡ q = cc in z), (let z : n ≡ j = cc in z)))
+
+count-by : (r : Result State) (p n : ℕ) → countOf (answerBy r p n) ≡ n
+count-by (accepted st) p n = refl
+count-by (refused k) p n = refl
+
+bytes-by : (r : Result State) (p n : ℕ) → answerBy r p n .verdict ≡ Accepted → answerBy r p n .frame .bytes .0 ≡ p / 8
+bytes-by (accepted st) p n e = refl
+bytes-by (refused k) p n e = absurd (let z : _≡_ {A = ℕ} 0 1 = cc in omega arith)
+
+module _ {s : List ℕ} (c : Call s) where
+  -- the definition's outcome, with the room that was lent
+  abbrev pub outcome : Outcome State
+  outcome = cut (size (c .lent)) (parse eac3 s)
+
+  is : c .answer ≡ answerBy (outcome .result) (outcome .place) (0 + length (outcome .records))
+  unfolding answerOf
+  is = c .called .answer
+
+  pub accepts : Accepts c → (st : State) × (outcome .result ≡ accepted st)
+  accepts e = accepts-by (outcome .result) (outcome .place) (0 + length (outcome .records)) (sym (ap (λ (a : Answer). a .verdict) is) ∙ e)
+
+  pub refuses : (k p n : ℕ) → Refuses c k p n → (outcome .result ≡ refused k) × (outcome .place ≡ p)
+  refuses k p n e =
+      let h = refuses-by (outcome .result) (outcome .place) (0 + length (outcome .records)) k p n (sym (ap (λ (a : Answer). a .verdict) is) ∙ e) in
+      (h .0, h .1 .0)
+
+  pub counts : count c ≡ length (outcome .records)
+  counts = ap countOf is ∙ count-by (outcome .result) (outcome .place) (0 + length (outcome .records)) ∙ zero-add (length (outcome .records))
+
+  pub bytes : Accepts c → c .answer .frame .bytes .0 ≡ outcome .place / 8
+  bytes e =
+      ap (λ (a : Answer). a .frame .bytes .0) is
+      ∙ bytes-by (outcome .result) (outcome .place) (0 + length (outcome .records)) (sym (ap (λ (a : Answer). a .verdict) is) ∙ e)
+
+  -- each record of the room is the definition's
+  pub holds : (i : ℕ) → i < count c → getElem? (list outcome) i ≡ some (nth c i)
+  holds i h =
+      let k : i < length (outcome .records) = omega (arith, counts) in
+      let f : 0 + length (outcome .records) ≤ size (c .lent) = let z = cut-fits (size (c .lent)) (parse eac3 s) in omega arith in
+      filled (outcome .records) (c .lent) 0 i f k
+      ∙ ap (λ (m : Room). some (recordAt m (0 + i))) (sym (c .called .left))
+      ∙ ap (λ j. some (recordAt (c .left) j)) (zero-add i)
+
+  -- and the definition has no more
+  pub held : (i : ℕ) (f : Field) → getElem? (list outcome) i ≡ some f → (i < count c) × (nth c i ≡ f)
+  held i f q =
+      let h : i < count c = let z = within (outcome .records) i f q in omega (arith, counts) in
+      let w : some (nth c i) ≡ some f = sym (holds i h) ∙ q in
+      (h, (let z : nth c i ≡ f = cc in z))

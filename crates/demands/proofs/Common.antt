@@ -1,0 +1,66 @@
+-- The common-reading theorem, of the reader. Assumes nothing.
+use mathlib.Core.Path.{_≡_, refl, ap, sym, _∙_}
+use mathlib.Core.List.{List, [], _∷_, map}
+use mathlib.Core.Logic.{_⊎_, inl, inr}
+use mathlib.Core.Option.{some}
+use Prim.Native.Nat.{ℕ, zero, suc, _≤_, _<_}
+use native.Mathlib.Omega.{arith}
+use lib.ListN.{length, getElem?, length-map}
+use Rattle.reading.specs.Run.{Field, Entry, end, Outcome}
+use Rattle.reading.specs.Room.{size}
+use Rattle.reading.specs.CommonReading.{Case, Stand, Excepted, list}
+use Rattle.eac3.specs.Frame.{announcedBy, eac3}
+use Rattle.eac3.proofs.Header.{eac3-common-reading}
+use Rattle.demands.specs.Calls.{Call, count, nth, Accepts, Refuses}
+use Rattle.demands.specs.Common.{Pair, Stands, CommonReading}
+use Rattle.demands.proofs.Calls.{outcome, accepts, refuses, counts, holds, held}
+
+stands : (x : List ℕ) (d : ℕ) {y z : List ℕ} (f : Call y) (g : Call z) → Stand eac3 x d (list (outcome f)) (list (outcome g)) → Stands x d f g
+stands x d f g h i l e = go (h i (nth f i) (holds f i l) e)
+  where
+    go : (getElem? (list (outcome g)) i ≡ some (nth f i)) ⊎ Excepted eac3 x d (nth f i) → ((i < count g) × (nth g i ≡ nth f i)) ⊎ Excepted eac3 x d (nth f i)
+    go (inl q) = inl (held g i (nth f i) q)
+    go (inr q) = inr q
+
+-- two lists with the same record at each place are the same
+same-at : (a b : List Field) → length a ≡ length b → ((i : ℕ) (f : Field) → getElem? a i ≡ some f → getElem? b i ≡ some f) → a ≡ b
+same-at [] [] h k = refl
+same-at [] (y ∷ b) h k = absurd (let z : ⊥ = omega arith in z)
+same-at (x ∷ a) [] h k = absurd (let z : ⊥ = omega arith in z)
+same-at (x ∷ a) (y ∷ b) h k =
+    let w : some y ≡ some x = k 0 x refl in
+    let e : x ≡ y = cc in
+    rw e (ap (λ r. y ∷ r) (same-at a b (omega arith) (λ i f q. k (suc i) f q)))
+
+pub common-reading : CommonReading
+unfolding eac3
+common-reading = record {
+  both = λ x y d f g p a b.
+      let u = accepts f a in
+      let v = accepts g b in
+      let c = case x y d f p a in
+      let r = eac3-common-reading .both x y d (size (f .lent)) (size (g .lent)) (v .0) c (v .1) in
+      (stands x d f g (r .0), stands x d g f (r .1));
+  second = λ x y d k p n f g q a b r.
+      let v = refuses g k p n b in
+      let t = eac3-common-reading .second x y d (size (f .lent)) (size (g .lent)) k (case x y d f q a) (v .0) r in
+      (let z : d < p = omega (arith, t .0, v .1) in z, stands x d g f (t .1));
+  same = λ x y f g bx by hx hy a b n r s.
+      let u = accepts f a in
+      let v = accepts g b in
+      eac3-common-reading .same x y (size (f .lent)) (size (g .lent)) (u .0) (v .0) bx by hx hy (u .1) (v .1) (lists x y f g n r) s;
+}
+  where
+    case : (x y : List ℕ) (d : ℕ) (f : Call x) → Pair x y d → Accepts f → Case eac3 x y d (size (f .lent))
+    case x y d f p a =
+        let u = accepts f a in
+        record { frame = u .0; holdsˣ = p .holdsˣ; holdsʸ = p .holdsʸ; accepts = u .1; differ = p .differ; inside = p .inside }
+
+    lists : (x y : List ℕ) (f : Call x) (g : Call y) → count f ≡ count g → ((i : ℕ) → i < count f → nth f i ≡ nth g i) → list (outcome f) ≡ list (outcome g)
+    lists x y f g n r =
+        same-at (list (outcome f)) (list (outcome g))
+        (length-map (outcome f .records) _ ∙ sym (counts f) ∙ n ∙ counts g ∙ sym (length-map (outcome g .records) _))
+        (λ i e q.
+        let h = held f i e q in
+        let l : i < count g = omega (arith, h .0, n) in
+        holds g i l ∙ ap some (sym (r i (h .0)) ∙ h .1))

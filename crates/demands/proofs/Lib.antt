@@ -1,0 +1,4 @@
+pub mod Rooms
+pub mod Calls
+pub mod Gapless
+pub mod Common

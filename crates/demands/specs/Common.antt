@@ -1,0 +1,34 @@
+-- Common reading, of the reader: what two calls on buffers that first differ at a bit have in common.
+use Prim.Native.Nat.{ℕ, _*_, _≤_, _<_}
+use mathlib.Core.Path.{_≡_}
+use mathlib.Core.List.{List}
+use mathlib.Core.Logic.{_⊎_}
+use lib.ListN.{take}
+use Rattle.reading.specs.Run.{end}
+use Rattle.reading.specs.Room.{size}
+use Rattle.reading.specs.CommonReading.{FirstDiffer, Holds, Excepted, Bytes, SameSpans, answer}
+use Rattle.eac3.specs.Frame.{announcedBy, eac3}
+use Rattle.demands.specs.Calls.{Call, count, nth, Accepts, Refuses}
+
+-- two buffers that both hold the frames that they announce, and first differ at d, inside the first one's frame
+pub record Pair (x y : List ℕ) (d : ℕ) : Type 0 where
+  pub holdsˣ : Holds eac3 x
+  pub holdsʸ : Holds eac3 y
+  pub differ : FirstDiffer x y d
+  pub inside : d < 8 * announcedBy x
+
+-- each record of the one call that ends at or before d is the record at the same place of the other, in all six parts;
+-- auxbits and auxdatal alone are excepted, where d comes no later than auxdatae of x's frame
+abbrev pub Stands : (x : List ℕ) (d : ℕ) {y z : List ℕ} → Call y → Call z → Type 0
+Stands x d f g = (i : ℕ) → i < count f → end (nth f i) ≤ d → ((i < count g) × (nth g i ≡ nth f i)) ⊎ Excepted eac3 x d (nth f i)
+
+pub record CommonReading : Type 0 where
+  -- A: both are accepted
+  pub both : (x y : List ℕ) (d : ℕ) (f : Call x) (g : Call y) → Pair x y d → Accepts f → Accepts g → Stands x d f g × Stands x d g f
+  -- B: the second is refused, and not for want of room
+  pub second : (x y : List ℕ) (d k p n : ℕ) (f : Call x) (g : Call y) → Pair x y d → Accepts f → Refuses g k p n → ¬ (k ≡ 33)
+      → (d < p) × Stands x d g f
+  -- C: two accepted frames with equal records and equal span bits are the same, byte for byte
+  pub same : (x y : List ℕ) (f : Call x) (g : Call y) → Bytes x → Bytes y → Holds eac3 x → Holds eac3 y → Accepts f → Accepts g
+      → count f ≡ count g → ((i : ℕ) → i < count f → nth f i ≡ nth g i) → SameSpans x y (answer eac3 (size (f .lent)) x)
+      → take (announcedBy x) x ≡ take (announcedBy y) y

@@ -1,0 +1,11 @@
+pub mod Counts
+pub mod Numbers
+pub mod Room
+pub mod Walking
+pub mod Cells
+pub mod Bounds
+pub mod Fits
+pub mod Keeps
+pub mod Exponents
+pub mod Sent
+pub mod Unmet

@@ -1,0 +1,44 @@
+-- What holds wherever a reading comes: of each item that it comes to, with the records so far and the cells then.
+use mathlib.Core.Path.{_≡_}
+use mathlib.Core.Bool.{true}
+use mathlib.Core.List.{List, [], _∷_, _++_}
+use mathlib.Core.Logic.{_⊎_}
+use Prim.Native.Nat.{ℕ, zero, suc, _-_}
+use Rattle.reading.specs.Tree.{Tree}
+use Rattle.reading.specs.Run.{Entry, accepted, run}
+use Rattle.walk.specs.Cells.{State, kept, sumOf}
+use Rattle.walk.specs.Rows.{holdsOf, countOf}
+use Rattle.walk.specs.Syntax.{Item, Block, element, span, scan, when, reject, each, put, act, end, _⨾_, item, meaning}
+
+-- a record of this name is among the records
+abbrev pub Has : ℕ → List Entry → Type 0
+Has n [] = ⊥
+Has n (e ∷ es) = (e .field .name ≡ n) ⊎ Has n es
+
+module _ (s : List ℕ) (l : ℕ) where
+  -- what holds after a tree, from the place p and after the records es, where the tree is accepted
+  abbrev pub Then : Tree State → ℕ → List Entry → (State → ℕ → List Entry → Type 0) → Type 0
+  Then t p es R = (a : State) → run t s p l .result ≡ accepted a → R a (run t s p l .place) (es ++ run t s p l .records)
+
+  -- A of each of n turns from the number i on, which stands in the cell k meanwhile
+  unfoldable pub Turning : (State → ℕ → List Entry → Type 0) → (State → Tree State) → ℕ → ℕ → ℕ → State → ℕ → List Entry → Type 0
+  Turning A f zero i k st p es = Unit {0}
+  Turning A f (suc n) i k st p es = A (kept st k i) p es × Then (f (kept st k i)) p es (λ a q fs. Turning A f n (suc i) k a q fs)
+
+  module _ (Q : Item → List Entry → State → Type 0) where
+    unfoldable mutual
+      -- inside an item
+      pub Inside : Item → State → ℕ → List Entry → Type 0
+      Inside (element name i w a) st p es = Unit {0}
+      Inside (span name a) st p es = Unit {0}
+      Inside (scan name a) st p es = Unit {0}
+      Inside (when c b) st p es = holdsOf c (st .cells) ≡ true → Along b st p es
+      Inside (reject c n) st p es = Unit {0}
+      Inside (each k i n b) st p es =
+          Turning (λ a q fs. Along b a q fs) (λ a. meaning b a) (countOf n (st .cells) - sumOf i (st .cells)) (sumOf i (st .cells)) k st p es
+      Inside (put a v) st p es = Unit {0}
+      Inside (act k x) st p es = Unit {0}
+
+      pub Along : Block → State → ℕ → List Entry → Type 0
+      Along end st p es = Unit {0}
+      Along (i ⨾ b) st p es = Q i es st × Inside i st p es × Then (item i st) p es (λ a q fs. Along b a q fs)

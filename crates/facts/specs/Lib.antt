@@ -1,0 +1,4 @@
+pub mod Counts
+pub mod Numbers
+pub mod Along
+pub mod Unmet
