@@ -1,0 +1,4 @@
+// Lists the elements of the frame on standard input: the answer, then first bit, width, name, block, index and value of each.
+fn main() {
+    listing::run();
+}

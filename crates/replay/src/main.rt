@@ -1,0 +1,122 @@
+// Replays a list of answers of the Rust, on standard input: each case is a slice and what the Rust said of it. It prints
+// the number of each case in which the reader differs, and then how many cases there are and how many of each verdict,
+// how many records their frames have, and how many cases differ.
+//
+// The list, all numbers high byte first: 2 bytes, how many cases there are; of each case 2 bytes, the length of the slice,
+// the slice, and 69 bytes: the verdict (0 accepted, 1 Invalid, 2 Unsupported, 3 Truncated) and 34 numbers of 2 bytes (specs/Told.antt).
+mod sums;
+mod told;
+
+ghost use Prim.Native.Nat.{_≤_};
+use libc::STDIN_FILENO;
+use print::newline;
+use print::number;
+use print::text;
+use std::num::wrapping_add_u64;
+use told::same;
+use told::tell;
+
+struct Tally {
+    verdicts: [u64; 4],
+    records: u64,
+    differences: u64,
+}
+
+// A number of two bytes.
+fn pair(high: u8, low: u8) -> usize {
+    256 * high as usize + low as usize
+}
+
+fn input_pair() -> usize {
+    let mut bytes = [0u8; 2];
+    io::read_full(STDIN_FILENO, &mut bytes);
+    pair(bytes[0], bytes[1])
+}
+
+// The length of a slice: no list has one above 4,200.
+fn length(n: usize) -> usize
+    ensures { λ r. ⌜ r ≤ 4200 ⌝ }
+{
+    if n < 4200 { n } else { 4200 }
+}
+
+fn answer() -> [u8; 69] {
+    let mut bytes = [0u8; 69];
+    io::read_full(STDIN_FILENO, &mut bytes);
+    bytes
+}
+
+// One more case, with the number of records that it has.
+fn counted(t: Tally, theirs: [u8; 69]) -> Tally {
+    let mut verdicts = t.verdicts;
+    let v = theirs[0] as usize % 4;
+    verdicts[v] = wrapping_add_u64(verdicts[v], 1);
+    let records = pair(theirs[63], theirs[64]) as u64;
+    Tally {
+        verdicts: verdicts,
+        records: wrapping_add_u64(t.records, records),
+        differences: t.differences,
+    }
+}
+
+fn differs(t: Tally, case: usize) -> Tally {
+    text(b"case ");
+    number(case as u64);
+    text(b" differs\n");
+    let verdicts = t.verdicts;
+    Tally {
+        verdicts: verdicts,
+        records: t.records,
+        differences: wrapping_add_u64(t.differences, 1),
+    }
+}
+
+fn slice(n: usize) -> [u8; 4200]
+    requires { ⌜ n ≤ 4200 ⌝ }
+{
+    let mut bytes = [0u8; 4200];
+    io::read_full(STDIN_FILENO, &mut bytes[..n]);
+    bytes
+}
+
+fn one(t: Tally, case: usize) -> Tally {
+    let n = length(input_pair());
+    let bytes = slice(n);
+    let theirs = answer();
+    let t = counted(t, theirs);
+    if same(tell(&bytes[..n]), theirs) {
+        return t;
+    }
+    differs(t, case)
+}
+
+fn part(name: &[u8], n: u64) {
+    text(name);
+    number(n);
+}
+
+fn print_tally(t: Tally, cases: usize) {
+    part(b"cases ", cases as u64);
+    part(b" accepted ", t.verdicts[0]);
+    part(b" invalid ", t.verdicts[1]);
+    part(b" unsupported ", t.verdicts[2]);
+    part(b" truncated ", t.verdicts[3]);
+    part(b" records ", t.records);
+    part(b" differences ", t.differences);
+    newline();
+}
+
+fn main() {
+    let cases = input_pair();
+    let mut t = Tally {
+        verdicts: [0; 4],
+        records: 0,
+        differences: 0,
+    };
+    let mut case = 0;
+    while case < cases {
+        t = one(t, case);
+        case += 1;
+    }
+    print_tally(t, cases);
+}

@@ -1,0 +1,26 @@
+-- By the cases.
+use mathlib.Core.Path.{refl}
+use Rattle.strategies.specs.Strategies.{codedOf}
+use borrow.Author.Needs.{needs}
+use Rattle.strategies.proofs.grid.coded.Statement.{statement}
+use Rattle.strategies.proofs.grid.coded.Tie as tie
+
+enum-known-f : tie.Need-enum-known-f
+enum-known-f c = search needs
+
+expanded-requires : tie.Need-expanded-requires
+expanded-requires c κs = search needs
+
+enum-told : tie.Need-enum-told
+enum-told c = search needs
+
+returns : tie.Need-returns
+unfolding codedOf
+returns c = rw (c .before .before .f .given .1) (c .expanded .ensures)
+
+returns-2 : tie.Need-returns-2
+unfolding codedOf
+returns-2 c = rw (c .enum-told .given .1) refl
+
+pub coded-spec : {M : Type 1} → statement M
+coded-spec = tie.close (tie.spec enum-known-f expanded-requires enum-told returns returns-2)

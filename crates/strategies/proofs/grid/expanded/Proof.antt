@@ -1,0 +1,39 @@
+-- By the tests.
+use mathlib.Core.Path.{refl}
+use Rattle.strategies.proofs.Laws.{below, above}
+use borrow.Author.Needs.{needs}
+use Rattle.strategies.proofs.grid.expanded.Statement.{statement}
+use Rattle.strategies.proofs.grid.expanded.Tie as tie
+
+frame-expstr-requires : tie.Need-frame-expstr-requires
+frame-expstr-requires c κs = search needs
+
+mul-result : tie.Need-mul-result
+mul-result c = search needs
+
+add-result : tie.Need-add-result
+add-result c = search needs
+
+array-read-result : tie.Need-array-read-result
+array-read-result c = search needs
+
+returns : tie.Need-returns
+returns c = rw (below (c .before .if2 .taken)) (rw (below (c .before .before .if1 .taken)) (rw (c .frame-expstr .ensures) refl))
+
+returns-2 : tie.Need-returns-2
+returns-2 c = rw (above (c .if2 .left)) (rw (below (c .before .if1 .taken)) refl)
+
+returns-3 : tie.Need-returns-3
+returns-3 c = rw (above (c .if1 .left)) refl
+
+pub expanded-spec : {M : Type 1} → statement M
+expanded-spec =
+    tie.close
+    (tie.spec
+    frame-expstr-requires
+    mul-result
+    add-result
+    array-read-result
+    returns
+    returns-2
+    returns-3)
