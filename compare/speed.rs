@@ -1,0 +1,114 @@
+//! Times our reader and the unchanged Rust's `eac3::parse` on the same frames, in one run.
+//! usage: speed FOLDER        FOLDER has the real frames
+//! Both are warm, and take turns; the figures are of the best turn of each, in time of the processor. Our rooms are lent
+//! whole (32,782 entries) and not cleared between calls; what the Rust takes for its lists, and gives back, is in its time.
+#![allow(dead_code)]
+mod both;
+mod features;
+mod generate;
+mod names;
+mod numbered;
+mod pointers;
+mod real;
+mod standard;
+mod theirs;
+use both::Rooms;
+use generate::{Drawer, Kind};
+use numbered::Answer;
+use std::hint::black_box;
+
+const ROOM: usize = 32_782;
+const TURNS: usize = 101;
+
+struct Set {
+    title: &'static str,
+    frames: Vec<Vec<u8>>,
+}
+
+fn accepted(f: &[u8]) -> bool {
+    reference::eac3::parse(f).is_ok()
+}
+
+fn drawn(title: &'static str, kind: Kind, seed: u64, wanted: impl Fn(&reference::frame::Frame) -> bool) -> Set {
+    let mut d = Drawer::new(seed);
+    let mut frames = Vec::new();
+    while frames.len() < 200 {
+        let f = d.frame(kind);
+        if reference::eac3::parse(&f).is_ok_and(|r| wanted(&r)) {
+            frames.push(f)
+        }
+    }
+    Set { title, frames }
+}
+
+#[repr(C)]
+struct Timespec {
+    seconds: i64,
+    nanoseconds: i64,
+}
+
+extern "C" {
+    fn clock_gettime(clock: i32, to: &mut Timespec) -> i32;
+}
+
+/// The processor's time of this thread, in nanoseconds.
+fn now() -> f64 {
+    const THREAD: i32 = 3;
+    let mut t = Timespec { seconds: 0, nanoseconds: 0 };
+    // C's clock_gettime of a 64-bit system.
+    assert!(unsafe { clock_gettime(THREAD, &mut t) } == 0);
+    t.seconds as f64 * 1e9 + t.nanoseconds as f64
+}
+
+/// The nanoseconds a frame of one turn.
+fn turn(frames: &[Vec<u8>], mut read: impl FnMut(&[u8])) -> f64 {
+    let start = now();
+    frames.iter().for_each(|f| read(black_box(f)));
+    (now() - start) / frames.len() as f64
+}
+
+fn time(set: &Set, rooms: &mut Rooms) {
+    let mut answer: Answer = [0; 34];
+    let (mut ours, mut theirs) = (f64::MAX, f64::MAX);
+    let (mut bytes, mut records) = (0, 0);
+    for f in &set.frames {
+        bytes += f.len();
+        rooms.ours(f, [ROOM; 6], &mut answer);
+        assert!(answer[0] == 0, "a frame of the set is refused");
+        records += answer[2] as usize;
+    }
+    for _ in 0..TURNS {
+        ours = ours.min(turn(&set.frames, |f| {
+            rooms.ours(f, [ROOM; 6], &mut answer);
+            black_box(&answer);
+        }));
+        theirs = theirs.min(turn(&set.frames, |f| drop(black_box(reference::eac3::parse(f)))));
+    }
+    let n = set.frames.len();
+    println!(
+        "{}: {n} frames, {} bytes and {} records each; ours {ours:.0} ns a frame, Rust {theirs:.0}, ratio {:.2}",
+        set.title, bytes / n, records / n, ours / theirs
+    );
+}
+
+fn main() {
+    let folder = std::env::args().nth(1).expect("the folder of real frames");
+    let all = real::frames(&folder);
+    let some = |start: &str| -> Vec<Vec<u8>> {
+        let six = |f: &[u8]| f[4] >> 4 & 3 == 3;
+        all.iter().filter(|(name, f)| name.starts_with(start) && six(f) && accepted(f)).map(|x| x.1.clone()).collect()
+    };
+    let sets = [
+        Set { title: "real, 5.1 channels", frames: some("5.1-") },
+        Set { title: "real, stereo", frames: some("stereo-") },
+        drawn("drawn, adaptive hybrid transform", Kind::Hybrid, 1, |f| !f.aht_slots.is_empty()),
+        drawn("drawn, spectral extension", Kind::Extension, 2, |f| f.spx_blocks > 0),
+        drawn("drawn, coupling", Kind::Coupling, 3, |f| f.cpl_blocks > 0),
+        drawn("drawn, any", Kind::Any, 4, |_| true),
+        drawn("smallest", Kind::Smallest, 5, |f| f.bytes < 40),
+    ];
+    let mut rooms = Rooms::new();
+    for set in &sets {
+        time(set, &mut rooms)
+    }
+}
