@@ -1,0 +1,64 @@
+/* The E-AC-3 syncframe reader for C: link target/staticlib/libeac3_c.a (rt staticlib eac3_c), x86-64 Linux.
+ *
+ * The caller owns every array; nothing is kept after the call, nothing is allocated, and the call may be made from
+ * any number of threads at once. No array may overlap another. All lengths may be 0, and then the pointers are not read,
+ * but must not be null. The function is proved to end with a defined answer for every slice and every room.
+ */
+#ifndef EAC3_H
+#define EAC3_H
+
+#include <stddef.h>
+#include <stdint.h>
+
+#ifdef __cplusplus
+extern "C" {
+#endif
+
+/* The room for records that always suffices. */
+#define EAC3_RECORDS 32782
+
+/* The longest frame, in bytes. What follows a frame in `data` is not looked at. */
+#define EAC3_BYTES 4096
+
+/* Places in the answer. */
+enum eac3_answer {
+    EAC3_NUMBER = 0,           /* 0: accepted; otherwise the refusal (docs/REFUSALS.md) */
+    EAC3_PLACE = 1,            /* the bit place of a refusal; the frame's end where it is accepted */
+    EAC3_FIELDS = 2,           /* the records that were written */
+    /* the rest is 0 after a refusal */
+    EAC3_FRAME_BYTES = 3,
+    EAC3_BSID = 4,
+    EAC3_ACMOD = 5,
+    EAC3_LFEON = 6,
+    EAC3_FSCOD = 7,
+    EAC3_STRMTYP = 8,
+    EAC3_SUBSTREAMID = 9,
+    EAC3_NUMBLKS = 10,
+    EAC3_BLOCK_STARTS = 11,    /* six bit places, 0 for blocks that the frame has not */
+    EAC3_MANTISSA_STARTS = 17, /* six bit places, likewise */
+    EAC3_AUDIO_END = 23,       /* the bit after the last block */
+    EAC3_AHT_TAGS = 24,        /* GAQ tags of large mantissas */
+    EAC3_AHT_SLOTS = 25,       /* seven, 1 or 0: channels 0 to 4, coupling, LFE */
+    EAC3_SPX_BLOCKS = 32,      /* blocks with spectral extension */
+    EAC3_CPL_BLOCKS = 33,      /* blocks with coupling */
+    EAC3_ANSWER = 34
+};
+
+/* Reads the frame at the beginning of `data`. Records go into six arrays side by side, as many as the shortest has room
+ * for: the name's number, the block and the index (-1 for none), the first bit, the width in bits, the value (0 for a
+ * span). Entries past the count are left as they were. Gives answer[EAC3_NUMBER].
+ */
+uint8_t eac3_parse(const uint8_t *data, size_t bytes,
+                   uint8_t *names, size_t names_room,
+                   int8_t *blocks, size_t blocks_room,
+                   int16_t *indexes, size_t indexes_room,
+                   uint16_t *firsts, size_t firsts_room,
+                   uint16_t *widths, size_t widths_room,
+                   uint32_t *values, size_t values_room,
+                   uint64_t answer[EAC3_ANSWER]);
+
+#ifdef __cplusplus
+}
+#endif
+
+#endif

@@ -1,0 +1,123 @@
+//! The E-AC-3 syncframe reader for Rust: a safe wrapper of the static library (rt staticlib eac3_c), without allocation.
+
+#[allow(improper_ctypes)]
+extern "C" {
+    fn eac3_parse(
+        data: &[u8], names: &mut [u8], blocks: &mut [i8], indexes: &mut [i16], firsts: &mut [u16], widths: &mut [u16], values: &mut [u32],
+        answer: &mut [u64; 34],
+    ) -> u8;
+}
+
+/// The room for records that always suffices.
+pub const RECORDS: usize = 32_782;
+
+/// The longest frame, in bytes.
+pub const BYTES: usize = 4_096;
+
+/// Room for `N` records; it is the caller's, and is lent for each reading.
+pub struct Room<const N: usize> {
+    pub names: [u8; N],
+    pub blocks: [i8; N],
+    pub indexes: [i16; N],
+    pub firsts: [u16; N],
+    pub widths: [u16; N],
+    pub values: [u32; N],
+}
+
+/// One record: block and index are -1 for none; a span has the value 0.
+#[derive(Clone, Copy, Debug, PartialEq, Eq)]
+pub struct Record {
+    pub name: u8,
+    pub block: i8,
+    pub index: i16,
+    pub first: u16,
+    pub width: u16,
+    pub value: u32,
+}
+
+impl<const N: usize> Room<N> {
+    pub const fn new() -> Self {
+        Room { names: [0; N], blocks: [0; N], indexes: [0; N], firsts: [0; N], widths: [0; N], values: [0; N] }
+    }
+
+    /// The record at a place, where there is room for it.
+    pub fn record(&self, i: usize) -> Option<Record> {
+        (i < N).then(|| Record {
+            name: self.names[i],
+            block: self.blocks[i],
+            index: self.indexes[i],
+            first: self.firsts[i],
+            width: self.widths[i],
+            value: self.values[i],
+        })
+    }
+}
+
+impl<const N: usize> Default for Room<N> {
+    fn default() -> Self {
+        Self::new()
+    }
+}
+
+/// An accepted frame. Bit places count from its first bit; places of blocks that it has not are 0.
+#[derive(Clone, Copy, Debug, PartialEq, Eq)]
+pub struct Frame {
+    pub bytes: u16,
+    pub records: usize,
+    pub bsid: u8,
+    pub acmod: u8,
+    pub lfeon: bool,
+    pub fscod: u8,
+    pub strmtyp: u8,
+    pub substreamid: u8,
+    pub numblks: u8,
+    pub block_starts: [u16; 6],
+    pub mantissa_starts: [u16; 6],
+    pub audio_end: u16,
+    pub aht_tags: u16,
+    /// Channels 0 to 4, coupling, LFE.
+    pub aht_slots: [bool; 7],
+    pub spx_blocks: u8,
+    pub cpl_blocks: u8,
+}
+
+/// A refusal (docs/REFUSALS.md): its number, its bit place, and the records that were written before.
+#[derive(Clone, Copy, Debug, PartialEq, Eq)]
+pub struct Refusal {
+    pub number: u8,
+    pub place: u16,
+    pub records: usize,
+}
+
+/// Reads the frame at the beginning of `data`; its records stand in the room afterwards.
+pub fn parse<const N: usize>(data: &[u8], room: &mut Room<N>) -> Result<Frame, Refusal> {
+    let mut a = [0u64; 34];
+    // The function meets no premise of its caller: it is proved for every slice and every room.
+    let number = unsafe {
+        eac3_parse(
+            data, &mut room.names, &mut room.blocks, &mut room.indexes, &mut room.firsts, &mut room.widths, &mut room.values, &mut a,
+        )
+    };
+    if number != 0 {
+        return Err(Refusal { number, place: a[1] as u16, records: a[2] as usize });
+    }
+    let six = |from: usize| std::array::from_fn(|i| a[from + i] as u16);
+    Ok(Frame {
+        bytes: a[3] as u16,
+        records: a[2] as usize,
+        bsid: a[4] as u8,
+        acmod: a[5] as u8,
+        lfeon: a[6] == 1,
+        fscod: a[7] as u8,
+        strmtyp: a[8] as u8,
+        substreamid: a[9] as u8,
+        numblks: a[10] as u8,
+        block_starts: six(11),
+        mantissa_starts: six(17),
+        audio_end: a[23] as u16,
+        aht_tags: a[24] as u16,
+        aht_slots: std::array::from_fn(|i| a[25 + i] == 1),
+        spx_blocks: a[32] as u8,
+        cpl_blocks: a[33] as u8,
+    })
+}
