@@ -1,4 +1,6 @@
 // The answer and the records of the frame on standard input, as lines of text.
+pub mod cases;
+
 ghost use mathlib.Core.Path.{_≡_};
 ghost use Rattle.names.specs.Spelling.{rows};
 ghost use Rattle.reading.specs.Room.{room};

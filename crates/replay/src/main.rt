@@ -7,8 +7,11 @@
 mod sums;
 mod told;
 
-ghost use Prim.Native.Nat.{_≤_};
 use libc::STDIN_FILENO;
+use listing::cases::input_pair;
+use listing::cases::length;
+use listing::cases::pair;
+use listing::cases::slice;
 use print::newline;
 use print::number;
 use print::text;
@@ -20,24 +23,6 @@ struct Tally {
     verdicts: [u64; 4],
     records: u64,
     differences: u64,
-}
-
-// A number of two bytes.
-fn pair(high: u8, low: u8) -> usize {
-    256 * high as usize + low as usize
-}
-
-fn input_pair() -> usize {
-    let mut bytes = [0u8; 2];
-    io::read_full(STDIN_FILENO, &mut bytes);
-    pair(bytes[0], bytes[1])
-}
-
-// The length of a slice: no list has one above 4,200.
-fn length(n: usize) -> usize
-    ensures { λ r. ⌜ r ≤ 4200 ⌝ }
-{
-    if n < 4200 { n } else { 4200 }
 }
 
 fn answer() -> [u8; 69] {
@@ -69,14 +54,6 @@ fn differs(t: Tally, case: usize) -> Tally {
         records: t.records,
         differences: wrapping_add_u64(t.differences, 1),
     }
-}
-
-fn slice(n: usize) -> [u8; 4200]
-    requires { ⌜ n ≤ 4200 ⌝ }
-{
-    let mut bytes = [0u8; 4200];
-    io::read_full(STDIN_FILENO, &mut bytes[..n]);
-    bytes
 }
 
 fn one(t: Tally, case: usize) -> Tally {

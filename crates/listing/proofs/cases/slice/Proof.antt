@@ -2,8 +2,8 @@
 use native.Mathlib.Omega.{arith}
 use lib.ListN.{length-take}
 use borrow.Author.Needs.{needs}
-use Rattle.replay.proofs.slice.Statement.{statement}
-use Rattle.replay.proofs.slice.Tie as tie
+use Rattle.listing.proofs.cases.slice.Statement.{statement}
+use Rattle.listing.proofs.cases.slice.Tie as tie
 
 array-borrow-prefix-bytes : tie.Need-array-borrow-prefix-bytes
 array-borrow-prefix-bytes c = search needs

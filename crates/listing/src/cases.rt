@@ -1,0 +1,31 @@
+// Slices on standard input, each after two bytes that say its length, the high byte first.
+ghost use Prim.Native.Nat.{_≤_};
+use libc::STDIN_FILENO;
+
+// A number of two bytes.
+pub fn pair(high: u8, low: u8) -> usize {
+    256 * high as usize + low as usize
+}
+
+// The next two bytes.
+pub fn input_pair() -> usize {
+    let mut bytes = [0u8; 2];
+    io::read_full(STDIN_FILENO, &mut bytes);
+    pair(bytes[0], bytes[1])
+}
+
+// The length of a slice: no list has one above 4,200.
+pub fn length(n: usize) -> usize
+    ensures { λ r. ⌜ r ≤ 4200 ⌝ }
+{
+    if n < 4200 { n } else { 4200 }
+}
+
+// The next n bytes.
+pub fn slice(n: usize) -> [u8; 4200]
+    requires { ⌜ n ≤ 4200 ⌝ }
+{
+    let mut bytes = [0u8; 4200];
+    io::read_full(STDIN_FILENO, &mut bytes[..n]);
+    bytes
+}
