@@ -1,7 +1,8 @@
 // Bits of a slice of bytes, the high bit of each byte first (A/52 clause 5.3, TS 102 366 clause 4.3).
 ghost use mathlib.Core.Path.{_≡_};
-ghost use Prim.Native.Nat.{_*_, _/_, _<_, _≤_};
-ghost use Rattle.bits.specs.Bits.{getOf};
+ghost use Prim.Native.Nat.{_+_, _*_, _-_, _/_, _<_, _≤_};
+ghost use lib.ListN.{length};
+ghost use Rattle.bits.specs.Bits.{bitsAt, getOf};
 
 // A place in a syncframe, in bits from its first one. A frame has at most 32,768.
 pub struct BitPlace(pub u16);
@@ -34,6 +35,27 @@ fn wide(x: u8) -> u64
     x as u64
 }
 
+// The number that the bytes from `first` up to `last` are: one and two at once, others in a loop.
+fn load(src: &[u8], first: usize, last: usize) -> u64
+    requires { ⌜ (first ≤ last) × (last ≤ first + 5) × (last ≤ length (now src)) ⌝ }
+    ensures { λ r. ⌜ r ≡ bitsAt (now (src .entry)) (8 * first) (8 * (last - first)) ⌝ }
+{
+    let n = last - first;
+    if n == 1 {
+        return wide(src[first]);
+    }
+    if n == 2 {
+        return wide(src[first]) * 256 + wide(src[first + 1]);
+    }
+    let mut v: u64 = 0;
+    let mut i = first;
+    while i < last {
+        v = v * 256 + wide(src[i]);
+        i += 1;
+    }
+    v
+}
+
 // The `width` bits from `at` on, the first of them the highest. 0 where the width is 0 or above 32,
 // and where the bits pass the end of the slice.
 pub fn get(src: &[u8], at: BitPlace, width: u16) -> u32
@@ -48,11 +70,6 @@ pub fn get(src: &[u8], at: BitPlace, width: u16) -> u32
     if src.len() < last {
         return 0;
     }
-    let mut v: u64 = 0;
-    let mut i = from / 8;
-    while i < last {
-        v = v * 256 + wide(src[i]);
-        i += 1;
-    }
+    let v = load(src, from / 8, last);
     ((v >> (last * 8 - to)) % (1 << (width as u64))) as u32
 }
