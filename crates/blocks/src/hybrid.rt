@@ -349,9 +349,9 @@ fn active_in(bins: &[u8; 3584], slot: u8, start: u16, end: u16, mode: u32) -> us
 }
 
 // The gain of a bin.
-fn gain_at(gain: [u8; 258], k: usize, a: bool) -> u8
+fn gain_at(gain: &[u8; 258], k: usize, a: bool) -> u8
     requires { ⌜ k < 258 ⌝ }
-    ensures { λ r. ⌜ r ≡ cond a (getD gain k 0) 1 ⌝ }
+    ensures { λ r. ⌜ r ≡ cond a (getD (now (gain .entry)) k 0) 1 ⌝ }
 {
     if a {
         return gain[k];
@@ -367,12 +367,12 @@ fn read_bins(
     start: u16,
     end: u16,
     mode: u32,
-    gain: [u8; 258],
+    gain: &[u8; 258],
     at: u16,
     limit: u16,
 ) -> Tagged
     requires { ⌜ (length (now bins) ≡ 3584) × (slot < 7) × (end ≤ 256) × (limit ≤ 8 * length (now src)) ⌝ }
-    ensures { λ r. ⌜ ((gains : List ℕ) → Gained gain gains → tagsTold r ≡ skim (binsOf mode gains (now (bins .entry)) slot start (end - start) 0 0) (now (src .entry)) at limit) × (r .tags ≤ 1536) ⌝ }
+    ensures { λ r. ⌜ ((gains : List ℕ) → Gained (now (gain .entry)) gains → tagsTold r ≡ skim (binsOf mode gains (now (bins .entry)) slot start (end - start) 0 0) (now (src .entry)) at limit) × (r .tags ≤ 1536) ⌝ }
 {
     let base = 1792 + 256 * (slot as usize);
     let mut p = at;
@@ -439,5 +439,5 @@ pub fn aht(
         };
     }
     let gain = g.gain;
-    read_bins(src, bins, slot, start, end, mode, gain, g.place, limit)
+    read_bins(src, bins, slot, start, end, mode, &gain, g.place, limit)
 }

@@ -35,7 +35,7 @@ read-bins-requires : tie.Need-read-bins-requires
 read-bins-requires c κs = search needs
 
 returns-3 : tie.Need-returns-3
-returns-3 c = let g = c .before .before .before .before .read-gains .ensures in (aht-bins _ _ _ _ _ _ _ _ (c .before .before .before .before .before .before .before .before .before .raw .ensures) _ _ (c .before .before .before .before .before .before .before .mode .given .1) _ (c .before .before .before .before .before .active-in .ensures .0) _ g (c .before .before .if1 .left) _ (c .read-bins .ensures .0 (g .gains) (g .kept)), c .read-bins .ensures .1)
+returns-3 c = let g = c .before .before .before .before .before .read-gains .ensures in (aht-bins _ _ _ _ _ _ _ _ (c .before .before .before .before .before .before .before .before .before .before .raw .ensures) _ _ (c .before .before .before .before .before .before .before .before .mode .given .1) _ (c .before .before .before .before .before .before .active-in .ensures .0) _ g (c .before .before .before .if1 .left) _ (c .read-bins .ensures .0 (g .gains) (g .kept)), c .read-bins .ensures .1)
 
 pub aht-spec : {M : Type 1} → statement M
 aht-spec =

@@ -50,7 +50,7 @@ bin-requires : tie.Need-bin-requires Inv-loop μ-loop
 bin-requires c κs = search needs
 
 returns : tie.Need-returns Inv-loop μ-loop
-returns c = (λ gains w. bins-off _ _ _ gains _ _ _ _ _ _ _ (c .before .before .before .before .before .before .loop-test .taken) _ refl _ (gain-is (c .before .before .before .before .before .before .before .before .before .args .gain) gains w _ (omega arith) _ _ _ (c .before .before .before .before .active .ensures) _ (c .before .before .before .gain-at .ensures)) _ _ _ (c .before .before .bin .ensures .0) (c .if1 .taken) ∙ sym (c .before .before .before .before .before .before .before .loop .inv .3 gains w), omega arith)
+returns c = (λ gains w. bins-off _ _ _ gains _ _ _ _ _ _ _ (c .before .before .before .before .before .before .loop-test .taken) _ refl _ (gain-is (c .before .before .before .before .before .before .before .before .before .args .gain .now) gains w _ (omega arith) _ _ _ (c .before .before .before .before .active .ensures) _ (c .before .before .before .gain-at .ensures)) _ _ _ (c .before .before .bin .ensures .0) (c .if1 .taken) ∙ sym (c .before .before .before .before .before .before .before .loop .inv .3 gains w), omega arith)
 
 add-tags : tie.Need-add-tags Inv-loop μ-loop
 add-tags c = omega (arith, c .before .before .before .bin .ensures .1)
@@ -65,7 +65,7 @@ loop-less : tie.Need-loop-less Inv-loop μ-loop
 loop-less c = search needs
 
 loop-again : tie.Need-loop-again Inv-loop μ-loop
-loop-again c = (omega (arith, c .counted .ensures .2), omega (arith, c .before .before .before .before .bin .ensures .1), omega (arith, c .before .before .before .before .bin .ensures .1), λ gains w. c .before .before .before .before .before .before .before .before .before .loop .inv .3 gains w ∙ bins-on _ _ _ gains _ _ _ _ _ _ _ (c .before .before .before .before .before .before .before .before .loop-test .taken) _ refl _ (gain-is (c .before .before .before .before .before .before .before .before .before .before .before .args .gain) gains w _ (omega arith) _ _ _ (c .before .before .before .before .before .before .active .ensures) _ (c .before .before .before .before .before .gain-at .ensures)) _ _ _ (c .before .before .before .before .bin .ensures .0) (c .before .before .if1 .left) _ (next-is _ _ _ _ (c .before .before .before .before .before .before .active .ensures) _ (c .counted .ensures .0)))
+loop-again c = (omega (arith, c .counted .ensures .2), omega (arith, c .before .before .before .before .bin .ensures .1), omega (arith, c .before .before .before .before .bin .ensures .1), λ gains w. c .before .before .before .before .before .before .before .before .before .loop .inv .3 gains w ∙ bins-on _ _ _ gains _ _ _ _ _ _ _ (c .before .before .before .before .before .before .before .before .loop-test .taken) _ refl _ (gain-is (c .before .before .before .before .before .before .before .before .before .before .before .args .gain .now) gains w _ (omega arith) _ _ _ (c .before .before .before .before .before .before .active .ensures) _ (c .before .before .before .before .before .gain-at .ensures)) _ _ _ (c .before .before .before .before .bin .ensures .0) (c .before .before .if1 .left) _ (next-is _ _ _ _ (c .before .before .before .before .before .before .active .ensures) _ (c .counted .ensures .0)))
 
 returns-2 : tie.Need-returns-2 Inv-loop μ-loop
 returns-2 c = (λ gains w. bins-end _ _ _ gains _ _ _ _ _ _ _ (c .loop-test .left) ∙ sym (c .before .loop .inv .3 gains w), omega arith)
