@@ -22,13 +22,15 @@ use Rattle.alloc.specs.declared.Pointers.{Pointers}
 use Rattle.alloc.specs.declared.Pointers.the-variants.{Bap, Hebap}
 use Rattle.alloc.proofs.Lists.{written-none, written-more}
 use Rattle.blocks.specs.Held.{Held}
-use Rattle.blocks.specs.State.{expsIn, pointedOf, kindOf, leakFor, paramsFor}
+use Rattle.blocks.specs.State.{segmentsOf, silentOf, channelOf, expsIn, pointedOf, pointersOf, kindOf, leakFor, paramsFor}
+use Rattle.blocks.specs.Coded.{quietened}
 use Rattle.blocks.specs.Memo.{kindBy, channelBy, paramsBy, leakBy, deltasBy, allocationBy, Says, headOf, Joined, argsKept, expsKept, Memo, Alike, Kept, Noted}
 use Rattle.blocks.specs.declared.plan.Shape.{Shape}
 use Rattle.blocks.specs.declared.state.Codes.{Codes}
 use Rattle.blocks.specs.declared.state.AllocState.{AllocState}
+use Rattle.blocks.specs.declared.state.Segments.{Segments}
 use Rattle.blocks.proofs.BitTables.{both}
-use Rattle.blocks.proofs.StateLaws.{pointed-length, pointed-is, allocation-length}
+use Rattle.blocks.proofs.StateLaws.{pointed-length, pointed-is, allocation-length, pointed-are}
 
 -- a part of a list
 module _ (m : List ℕ) (i n : ℕ) (h : i + n ≤ length m) where
@@ -298,3 +300,16 @@ module _ (bins : List ℕ) (held : Held bins) (slot : ℕ) (h : slot < 7) (a : L
   renewed old new x ps ex lx ep so f =
       let e = pointed-is bins slot x ps k c p l d ex ep in
       (e, subst (λ b. Memo new b) (sym e) (memo-noted old new x so f ex lx))
+
+-- a slot of a block: its pointers are there already
+module _ (st : AllocState) (q : Codes) (fscod : ℕ) (shape : Shape) (slot : ℕ) (c : Channel) (s : Deltas) (a : List ℕ)
+    (hs : c .start < 65536) (he : c .end ≤ 253) (hg : c .fgain ≡ getD fastgain (getD (st .fgaincod) slot 0) 0) (hn : s .n ≤ 8)
+    (head : List ℕ) (eh : head ≡ headOf st q fscod shape slot c (s .n)) (j : Joined a head s) (p : Params) (ep : p ≡ paramsFor q fscod)
+    (d : Segments) (hushed : Bool) (eq : hushed ≡ silentOf st shape) (ec : c ≡ quietened hushed (channelOf st shape slot)) (es : s ≡ segmentsOf d slot)
+    (bins : List ℕ) where
+  pub slot-found : Held bins → slot < 7 → (memo : List ℕ) → Memo memo bins → (t : Bool) → t ≡ true → Kept t memo bins slot a
+      → bins ≡ pointedOf bins slot (pointersOf st p shape d bins slot)
+  slot-found held h memo so t e f =
+      pointed-are st p shape d bins slot hushed eq c ec (leakFor st slot) refl s es (kindOf shape slot) refl bins
+      (memo-found bins held slot h a (kindOf shape slot) c p (leakFor st slot) s
+      (says-slot st q fscod shape slot c s a hs he hg hn head eh j (kindOf shape slot) refl p ep (leakFor st slot) refl) memo so t e f)

@@ -132,29 +132,52 @@ module _ (st : AllocState) (shape : Shape) (slot : ℕ) (all : Bool) (so : silen
       let g : slot + 1 ≡ suc slot = omega arith in
       so ∙ rw (f, e, d, c, ← g) (and-assoc all (not (requestedOf shape slot) || eqb (getD (st .fsnroffst) slot 0) 0) (quietOf st shape (slot + 1) (7 - (slot + 1))))
 
+cond-length : (t : Bool) (x y : List ℕ) (n : ℕ) → length x ≡ n → length y ≡ n → length (cond t x y) ≡ n
+cond-length true x y n a b = a
+cond-length false x y n a b = b
+
 -- the slots
 module _ (st : AllocState) (p : Params) (shape : Shape) (d : Segments) (bins : List ℕ) (slot : ℕ) where
   pub slots-done : 7 ≤ slot → pointSlots st p shape d bins slot (7 - slot) ≡ bins
   unfolding pointSlots
   slots-done h = let e : 7 - slot ≡ 0 = omega arith in rw e
 
-  module _ (h : slot < 7) (hushed : Bool) (i : hushed ≡ silentOf st shape) (asked : Bool) (r : asked ≡ requestedOf shape slot)
-      (c : Channel) (j : c ≡ quietened hushed (channelOf st shape slot)) (l : Leak) (m : l ≡ leakFor st slot) (s : Deltas) (n : s ≡ segmentsOf d slot)
-      (k : Pointers) (o : k ≡ kindOf shape slot) (new : List ℕ)
-      (e : new ≡ cond asked (pointedOf bins slot (allocation k (expsIn bins slot) c p l s)) bins) where
-    here : allocation k (expsIn bins slot) c p l s ≡ pointersOf st p shape d bins slot
-    unfolding pointersOf
-    here = rw (j, m, n, o, i) (allocation-hushed (silentOf st shape) (kindOf shape slot) (expsIn bins slot) (channelOf st shape slot) p (leakFor st slot) (segmentsOf d slot))
+  pointers-are : (hushed : Bool) → hushed ≡ silentOf st shape → (c : Channel) → c ≡ quietened hushed (channelOf st shape slot) → (l : Leak) → l ≡ leakFor st slot
+      → (s : Deltas) → s ≡ segmentsOf d slot → (k : Pointers) → k ≡ kindOf shape slot → allocation k (expsIn bins slot) c p l s ≡ pointersOf st p shape d bins slot
+  unfolding pointersOf
+  pointers-are hushed i c j l m s n k o =
+      rw (j, m, n, o, i) (allocation-hushed (silentOf st shape) (kindOf shape slot) (expsIn bins slot) (channelOf st shape slot) p (leakFor st slot) (segmentsOf d slot))
 
-    pub slots-next : pointSlots st p shape d bins slot (7 - slot) ≡ pointSlots st p shape d new (slot + 1) (7 - (slot + 1))
+  pub pointed-are : (hushed : Bool) → hushed ≡ silentOf st shape → (c : Channel) → c ≡ quietened hushed (channelOf st shape slot) → (l : Leak) → l ≡ leakFor st slot
+      → (s : Deltas) → s ≡ segmentsOf d slot → (k : Pointers) → k ≡ kindOf shape slot → (new : List ℕ) → new ≡ pointedOf bins slot (allocation k (expsIn bins slot) c p l s)
+      → new ≡ pointedOf bins slot (pointersOf st p shape d bins slot)
+  pointed-are hushed i c j l m s n k o new e = e ∙ ap (λ v. pointedOf bins slot v) (pointers-are hushed i c j l m s n k o)
+
+  pointers-length : length (pointersOf st p shape d bins slot) ≡ 256
+  unfolding pointersOf
+  pointers-length =
+      cond-length (silentOf st shape) (replicate 256 0) (allocation (kindOf shape slot) (expsIn bins slot) (channelOf st shape slot) p (leakFor st slot) (segmentsOf d slot)) 256
+      refl (allocation-length (kindOf shape slot) (expsIn bins slot) (channelOf st shape slot) p (leakFor st slot) (segmentsOf d slot))
+
+  pub slot-held : slot < 7 → Held bins → (new : List ℕ) → new ≡ pointedOf bins slot (pointersOf st p shape d bins slot) → Held new
+  slot-held h held new e = rw e (pointed-held bins held slot h (pointersOf st p shape d bins slot) pointers-length)
+
+  -- the next slot, this one asked for or not
+  module _ (h : slot < 7) (asked : Bool) (r : asked ≡ requestedOf shape slot) (new : List ℕ) where
+    next : (t : Bool) → asked ≡ t → new ≡ cond t (pointedOf bins slot (pointersOf st p shape d bins slot)) bins
+        → pointSlots st p shape d bins slot (7 - slot) ≡ pointSlots st p shape d new (slot + 1) (7 - (slot + 1))
     unfolding pointSlots
-    slots-next =
+    next t u e =
         let f : 7 - slot ≡ suc (7 - (slot + 1)) = omega arith in
         let g : slot + 1 ≡ suc slot = omega arith in
-        rw (f, e, here, r, g)
+        rw (f, e, ← u, r, g)
 
-    pub slots-held : Held bins → Held new
-    slots-held held = rw e (held-if asked _ bins (pointed-held bins held slot h _ (allocation-length k (expsIn bins slot) c p l s)) held)
+    pub slots-next : asked ≡ true → new ≡ pointedOf bins slot (pointersOf st p shape d bins slot)
+        → pointSlots st p shape d bins slot (7 - slot) ≡ pointSlots st p shape d new (slot + 1) (7 - (slot + 1))
+    slots-next t e = next true t e
+
+    pub slots-skip : asked ≡ false → new ≡ bins → pointSlots st p shape d bins slot (7 - slot) ≡ pointSlots st p shape d new (slot + 1) (7 - (slot + 1))
+    slots-skip t e = next false t e
 
 -- a block
 module _ (st : AllocState) (fscod : ℕ) (shape : Shape) (d : Segments) (bins : List ℕ) (r : Parameters) (e : r ≡ st .parameters) where
@@ -167,24 +190,14 @@ module _ (st : AllocState) (fscod : ℕ) (shape : Shape) (d : Segments) (bins : 
   sent q f new g = ap (λ x. allocated 0 x) g ∙ ap (λ x. bySent x (allocated 29 bins) (λ p. allocated 0 (pointSlots st (paramsFor p fscod) shape d bins 0 7))) (sym f ∙ e)
 
 -- allocation keeps the exponents
-cond-length : (t : Bool) (x y : List ℕ) (n : ℕ) → length x ≡ n → length y ≡ n → length (cond t x y) ≡ n
-cond-length true x y n a b = a
-cond-length false x y n a b = b
-
 module _ (st : AllocState) (p : Params) (shape : Shape) (d : Segments) where
-  pointers-length : (bins : List ℕ) (slot : ℕ) → length (pointersOf st p shape d bins slot) ≡ 256
-  unfolding pointersOf
-  pointers-length bins slot =
-      cond-length (silentOf st shape) (replicate 256 0) (allocation (kindOf shape slot) (expsIn bins slot) (channelOf st shape slot) p (leakFor st slot) (segmentsOf d slot)) 256
-      refl (allocation-length (kindOf shape slot) (expsIn bins slot) (channelOf st shape slot) p (leakFor st slot) (segmentsOf d slot))
-
   slots-keep : (bins : List ℕ) (slot n : ℕ) → slot + n ≤ 7 → Held bins → Held (pointSlots st p shape d bins slot n)
   unfolding pointSlots
   slots-keep bins slot zero h held = held
   slots-keep bins slot (suc n) h held =
       slots-keep (cond (requestedOf shape slot) (pointedOf bins slot (pointersOf st p shape d bins slot)) bins) (suc slot) n (omega arith)
       (held-if (requestedOf shape slot) (pointedOf bins slot (pointersOf st p shape d bins slot)) bins
-      (pointed-held bins held slot (omega arith) (pointersOf st p shape d bins slot) (pointers-length bins slot)) held)
+      (slot-held st p shape d bins slot (omega arith) held _ refl) held)
 
 pub allocated-held : (st : AllocState) (fscod : ℕ) (shape : Shape) (d : Segments) (bins : List ℕ) → Held bins → Held (allocatedOf st fscod shape d bins .bins)
 unfolding allocatedOf

@@ -48,6 +48,10 @@ eightOf xs k =
     getD xs k 0 ∷ getD xs (k + 1) 0 ∷ getD xs (k + 2) 0 ∷ getD xs (k + 3) 0
     ∷ getD xs (k + 4) 0 ∷ getD xs (k + 5) 0 ∷ getD xs (k + 6) 0 ∷ getD xs (k + 7) 0 ∷ []
 
+-- the segments by their fields, which the code lends
+abbrev pub segmentsBy : List ℕ → List ℕ → List ℕ → List ℕ → Segments
+segmentsBy n offset len ba = record { n = n; offset = offset; len = len; ba = ba }
+
 -- the segments of a slot, of which there are at most eight; the LFE channel has none
 unfoldable pub segmentsOf : Segments → ℕ → Deltas
 segmentsOf d slot =

@@ -24,7 +24,7 @@ ghost use Rattle.alloc.specs.Allocation.{allocation, fastOf, slowOf};
 ghost use Rattle.alloc.specs.Premises.{Lent, Exponents, Tuned, Channelled};
 ghost use Rattle.blocks.specs.Plan.{requestedOf, rangeOf};
 ghost use Rattle.blocks.specs.Held.{Held};
-ghost use Rattle.blocks.specs.State.{freshState, deltaCodeOf, eightOf, segmentsOf, quietOf, silentOf, channelOf, leakFor, kindOf, paramsFor, expsIn, pointedOf, pointersOf, pointSlots, allocated, allocatedOf};
+ghost use Rattle.blocks.specs.State.{freshState, deltaCodeOf, eightOf, segmentsOf, quietOf, silentOf, channelOf, leakFor, kindOf, paramsFor, expsIn, pointedOf, pointersOf, pointSlots, allocated, allocatedOf, segmentsBy};
 ghost use Rattle.blocks.specs.Coded.{Coded, quietened};
 ghost use Rattle.blocks.specs.Memo.{Memo, Says, headOf, Joined};
 ghost use Rattle.tables.specs.BitAllocation.{fastgain};
@@ -116,9 +116,9 @@ fn index(x: u8) -> usize
     x as usize
 }
 
-fn eight(xs: [u8; 48], slot: u8) -> [u8; 8]
+fn eight(xs: &[u8; 48], slot: u8) -> [u8; 8]
     requires { ⌜ slot < 6 ⌝ }
-    ensures { λ r. ⌜ r ≡ eightOf xs (8 * slot) ⌝ }
+    ensures { λ r. ⌜ r ≡ eightOf (now (xs .entry)) (8 * slot) ⌝ }
 {
     let k = 8 * (slot as usize);
     [
@@ -134,23 +134,20 @@ fn eight(xs: [u8; 48], slot: u8) -> [u8; 8]
 }
 
 // The segments of a slot; the LFE channel has none.
-fn segments_of(d: Segments, slot: u8) -> Deltas
-    ensures { λ r. ⌜ (r ≡ segmentsOf d slot) × (r .n ≤ 8) ⌝ }
+fn segments_of(n: &[u8; 6], offset: &[u8; 48], len: &[u8; 48], ba: &[u8; 48], slot: u8) -> Deltas
+    ensures { λ r. ⌜ (r ≡ segmentsOf (segmentsBy (now (n .entry)) (now (offset .entry)) (now (len .entry)) (now (ba .entry))) slot) × (r .n ≤ 8) ⌝ }
 {
     if slot < LFE {
         let i = slot as usize;
-        let n = least(index(d.n[i]), 8);
-        let o = d.offset;
-        let l = d.len;
-        let b = d.ba;
-        let offset = eight(o, slot);
-        let len = eight(l, slot);
-        let ba = eight(b, slot);
+        let m = least(index(n[i]), 8);
+        let o = eight(offset, slot);
+        let l = eight(len, slot);
+        let b = eight(ba, slot);
         return Deltas {
-            n: n,
-            offset: offset,
-            len: len,
-            ba: ba,
+            n: m,
+            offset: o,
+            len: l,
+            ba: b,
         };
     }
     let none = [0u8; 8];
@@ -364,7 +361,7 @@ fn renew(
     note(memo, slot, args, &exps);
 }
 
-// The pointers of a slot, where they are asked for; computed only where something changed since.
+// The pointers of a slot; computed only where something changed since.
 fn point(
     latab: &[u8; 256],
     masktab: &[u8; 253],
@@ -373,26 +370,33 @@ fn point(
     points: &[u8; 128],
     bins: &mut [u8],
     memo: &mut [u8; 2128],
-    asked: bool,
-    slot: usize,
-    args: &[u8; 48],
-    c: Channel,
+    st: AllocState,
+    q: Codes,
+    fscod: u8,
+    shape: Shape,
+    n: &[u8; 6],
+    offset: &[u8; 48],
+    len: &[u8; 48],
+    ba: &[u8; 48],
     p: Params,
-    l: Leak,
-    d: Deltas,
-    kind: Pointers,
+    hushed: bool,
+    slot: u8,
 )
     requires { ⌜ Lent (now latab) (now masktab) (now ends) (now hth) (now points) ⌝ }
-    requires { ⌜ (Held (now bins)) × (slot < 7) × Memo (now memo) (now bins) × Says (now args) kind c p l d ⌝ }
-    requires { ⌜ (Channelled c l d) × Tuned p ⌝ }
-    ensures { λ r. ⌜ (now (bins .exit) ≡ cond asked (pointedOf (now (bins .entry)) slot (allocation kind (expsIn (now (bins .entry)) slot) c p l d)) (now (bins .entry))) × Memo (now (memo .exit)) (now (bins .exit)) ⌝ }
+    requires { ⌜ (Held (now bins)) × (slot < 7) × Memo (now memo) (now bins) × (Coded st fscod) ⌝ }
+    requires { ⌜ (p ≡ paramsFor q fscod) × (hushed ≡ silentOf st shape) ⌝ }
+    ensures { λ r. ⌜ (now (bins .exit) ≡ pointedOf (now (bins .entry)) slot
+        (pointersOf st p shape (segmentsBy (now (n .entry)) (now (offset .entry)) (now (len .entry)) (now (ba .entry))) (now (bins .entry)) slot))
+        × Memo (now (memo .exit)) (now (bins .exit)) ⌝ }
 {
-    if !asked {
+    let c = channel(st, shape, slot, hushed);
+    let s = segments_of(n, offset, len, ba, slot);
+    let args = args_of(head_of(st, q, fscod, shape, slot, c, s.n), s);
+    if kept(memo, bins, slot as usize, &args) {
         return;
     }
-    if kept(memo, bins, slot, args) {
-        return;
-    }
+    let l = leak_for(st, slot);
+    let kind = kind_of(shape, slot);
     renew(
         latab,
         masktab,
@@ -401,12 +405,12 @@ fn point(
         points,
         bins,
         memo,
-        slot,
-        args,
+        slot as usize,
+        &args,
         c,
         p,
         l,
-        d,
+        s,
         kind,
     );
 }
@@ -417,12 +421,17 @@ fn point_slots(
     q: Codes,
     fscod: u8,
     shape: Shape,
-    d: Segments,
+    n: &[u8; 6],
+    offset: &[u8; 48],
+    len: &[u8; 48],
+    ba: &[u8; 48],
     bins: &mut [u8],
     memo: &mut [u8; 2128],
 )
     requires { ⌜ (Held (now bins)) × (Coded st fscod) × Memo (now memo) (now bins) ⌝ }
-    ensures { λ r. ⌜ (now (bins .exit) ≡ pointSlots st (paramsFor q fscod) shape d (now (bins .entry)) 0 7) × Memo (now (memo .exit)) (now (bins .exit)) ⌝ }
+    ensures { λ r. ⌜ (now (bins .exit)
+        ≡ pointSlots st (paramsFor q fscod) shape (segmentsBy (now (n .entry)) (now (offset .entry)) (now (len .entry)) (now (ba .entry))) (now (bins .entry)) 0 7)
+        × Memo (now (memo .exit)) (now (bins .exit)) ⌝ }
 {
     let latab = tables::log_add();
     let masktab = tables::masktab();
@@ -440,50 +449,54 @@ fn point_slots(
     let hushed = silent(st, shape);
     let mut slot: u8 = 0;
     while slot < 7 {
-        let asked = requested(shape, slot);
-        let c = channel(st, shape, slot, hushed);
-        let l = leak_for(st, slot);
-        let s = segments_of(d, slot);
-        let k = kind_of(shape, slot);
-        let args = args_of(head_of(st, q, fscod, shape, slot, c, s.n), s);
-        point(
-            &latab,
-            &masktab,
-            &ends,
-            &hth,
-            &points,
-            bins,
-            memo,
-            asked,
-            slot as usize,
-            &args,
-            c,
-            p,
-            l,
-            s,
-            k,
-        );
+        if requested(shape, slot) {
+            point(
+                &latab,
+                &masktab,
+                &ends,
+                &hth,
+                &points,
+                bins,
+                memo,
+                st,
+                q,
+                fscod,
+                shape,
+                n,
+                offset,
+                len,
+                ba,
+                p,
+                hushed,
+                slot,
+            );
+        }
         slot += 1;
     }
 }
 
 // The pointers of a block: those of the slots that are asked for, the others as they are. 0, or refusal 29
-// where no parameters were ever sent, also where the block is silent.
-pub fn allocate_block(
+// where no parameters were ever sent, also where the block is silent. The fields of the segments are lent.
+pub fn allocate_block<'a>(
     st: AllocState,
     fscod: u8,
     shape: Shape,
-    d: Segments,
+    n: &'a [u8; 6],
+    offset: &'a [u8; 48],
+    len: &'a [u8; 48],
+    ba: &'a [u8; 48],
     bins: &mut [u8; 3584],
     memo: &mut [u8; 2128],
 ) -> u8
     requires { ⌜ (Held (now bins)) × (Coded st fscod) × Memo (now memo) (now bins) ⌝ }
-    ensures { λ r. ⌜ (allocated r (now (bins .exit)) ≡ allocatedOf st fscod shape d (now (bins .entry))) × Memo (now (memo .exit)) (now (bins .exit)) ⌝ }
+    ensures { λ r. ⌜ (allocated r (now (bins .exit))
+        ≡ allocatedOf st fscod shape (segmentsBy (now (n .entry)) (now (offset .entry)) (now (len .entry)) (now (ba .entry))) (now (bins .entry)))
+        × Memo (now (memo .exit)) (now (bins .exit)) ⌝ }
 {
     let parameters = st.parameters;
     let Parameters::Sent(q) = parameters else {
         return 29;
     };
-    point_slots(st, q, fscod, shape, d, bins, memo);
+    point_slots(st, q, fscod, shape, n, offset, len, ba, bins, memo);
     0
 }

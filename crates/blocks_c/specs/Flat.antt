@@ -7,7 +7,6 @@ use Rattle.blocks.specs.declared.plan.Shape.{Shape}
 use Rattle.blocks.specs.declared.state.AllocState.{AllocState}
 use Rattle.blocks.specs.declared.state.Parameters.{Parameters}
 use Rattle.blocks.specs.declared.state.Parameters.the-variants.{NeverSent, Sent}
-use Rattle.blocks.specs.declared.state.Segments.{Segments}
 
 abbrev pub sentOf : Bool → List ℕ → Parameters
 sentOf sent codes =
@@ -38,6 +37,3 @@ shapeOf nfchans lfeon cplinu ahtinu ahtread endmant cplstrt cplend =
       cplstrt = cplstrt;
       cplend = cplend;
     }
-
-abbrev pub flatSegments : List ℕ → List ℕ → List ℕ → List ℕ → Segments
-flatSegments n offset len ba = record { n = n; offset = offset; len = len; ba = ba }

@@ -6,7 +6,6 @@ use blocks::plan::Shape;
 use blocks::state::AllocState;
 use blocks::state::Codes;
 use blocks::state::Parameters;
-use blocks::state::Segments;
 ghost use mathlib.Core.Path.{_≡_};
 ghost use Prim.Native.Nat.{_+_, _*_, _-_, _<_, _≤_};
 ghost use lib.ListN.{length};
@@ -15,9 +14,9 @@ ghost use Rattle.blocks.specs.Exponents.{decodeOf, sizeOf, groupsOf, startOf, f
 ghost use Rattle.blocks.specs.Mantissas.{conventionalOf};
 ghost use Rattle.blocks.specs.Hybrid.{ahtOf};
 ghost use Rattle.blocks.specs.Held.{Held};
-ghost use Rattle.blocks.specs.State.{allocated, allocatedOf};
+ghost use Rattle.blocks.specs.State.{allocated, allocatedOf, segmentsBy};
 ghost use Rattle.blocks_c.specs.Packed.{packedGroup, packed, PassedTold, TagsTold};
-ghost use Rattle.blocks_c.specs.Flat.{sentOf, stateOf, shapeOf, flatSegments};
+ghost use Rattle.blocks_c.specs.Flat.{sentOf, stateOf, shapeOf};
 
 #[no_mangle]
 pub extern "C" fn blocks_groups(slot: u8, strategy: u8, start: u16, end: u16) -> u16
@@ -164,7 +163,7 @@ fn sent_of(sent: bool, codes: [u8; 5]) -> Parameters
 
 // The arrays come in lent, one for each. Nothing is kept from one call to the next.
 #[no_mangle]
-pub extern "C" fn blocks_allocate(
+pub extern "C" fn blocks_allocate<'a>(
     sent: bool,
     codes: &[u8; 5],
     csnroffst: u8,
@@ -181,17 +180,17 @@ pub extern "C" fn blocks_allocate(
     endmant: &[u16; 5],
     cplstrt: u16,
     cplend: u16,
-    n: &[u8; 6],
-    offset: &[u8; 48],
-    len: &[u8; 48],
-    ba: &[u8; 48],
+    n: &'a [u8; 6],
+    offset: &'a [u8; 48],
+    len: &'a [u8; 48],
+    ba: &'a [u8; 48],
     bins: &mut [u8; 3584],
 ) -> u8
     requires { ⌜ (Held (now bins)) × (cplfleak < 8) × (cplsleak < 8) × (fscod < 3) ⌝ }
     ensures { λ r. ⌜ allocated r (now (bins .exit))
         ≡ allocatedOf (stateOf (sentOf sent (now (codes .entry))) csnroffst (now (fsnroffst .entry)) (now (fgaincod .entry)) cplfleak cplsleak) fscod
         (shapeOf nfchans lfeon cplinu (now (ahtinu .entry)) (now (ahtread .entry)) (now (endmant .entry)) cplstrt cplend)
-        (flatSegments (now (n .entry)) (now (offset .entry)) (now (len .entry)) (now (ba .entry))) (now (bins .entry)) ⌝ }
+        (segmentsBy (now (n .entry)) (now (offset .entry)) (now (len .entry)) (now (ba .entry))) (now (bins .entry)) ⌝ }
 {
     let c = *codes;
     let f = *fsnroffst;
@@ -199,10 +198,6 @@ pub extern "C" fn blocks_allocate(
     let a = *ahtinu;
     let b = *ahtread;
     let e = *endmant;
-    let sn = *n;
-    let so = *offset;
-    let sl = *len;
-    let sb = *ba;
     let none = [false; 5];
     let st = AllocState {
         parameters: sent_of(sent, c),
@@ -223,12 +218,6 @@ pub extern "C" fn blocks_allocate(
         cplstrt: cplstrt,
         cplend: cplend,
     };
-    let d = Segments {
-        n: sn,
-        offset: so,
-        len: sl,
-        ba: sb,
-    };
     let mut memo = [0u8; 2128];
-    blocks::state::allocate_block(st, fscod, shape, d, bins, &mut memo)
+    blocks::state::allocate_block(st, fscod, shape, n, offset, len, ba, bins, &mut memo)
 }

@@ -248,5 +248,5 @@ pub fn allocate_in(cells: &[u16; 640], bins: &mut [u8; 3584], memo: &mut [u8; 21
     let st = alloc_state_of(cells);
     let shape = shape_of(cells);
     let d = segments_in(cells);
-    allocate_block(st, fscod, shape, d, bins, memo)
+    allocate_block(st, fscod, shape, &d.n, &d.offset, &d.len, &d.ba, bins, memo)
 }

@@ -11,7 +11,9 @@ sent-of-requires : tie.Need-sent-of-requires
 sent-of-requires c κs = search needs
 
 allocate-block-requires : tie.Need-allocate-block-requires
-allocate-block-requires c κs = (c .before .before .before .before .before .before .before .before .before .before .before .before .before .pre .0, record { fast = c .before .before .before .before .before .before .before .before .before .before .before .before .before .pre .1; slow = c .before .before .before .before .before .before .before .before .before .before .before .before .before .pre .2; rate = c .before .before .before .before .before .before .before .before .before .before .before .before .before .pre .3 }, memo-fresh _)
+allocate-block-requires c κs =
+    let pre = c .before .before .before .before .before .before .before .before .before .pre in
+    (pre .0, record { fast = pre .1; slow = pre .2; rate = pre .3 }, memo-fresh _)
 
 returns : tie.Need-returns
 returns c = rw (← c .before .before .before .sent-of .ensures) (c .allocate-block .ensures .0)

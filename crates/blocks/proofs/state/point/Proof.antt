@@ -1,37 +1,82 @@
-use mathlib.Core.Path.{_≡_, refl}
-use borrow.Author.Tests.{not-true, not-false}
-use Rattle.blocks.proofs.MemoLaws.{memo-found}
+use Rattle.alloc.proofs.Codes.{codes-tuned}
+use Rattle.blocks.proofs.StateLaws.{pointed-are}
+use Rattle.blocks.proofs.MemoLaws.{says-slot, slot-found}
 use borrow.Author.Needs.{needs}
 use Rattle.blocks.proofs.state.point.Statement.{statement}
 use Rattle.blocks.proofs.state.point.Tie as tie
 use Rattle.blocks.proofs.state.point.Reads as reads
 use Rattle.blocks.proofs.state.point.Lts as lts
 use Rattle.blocks.proofs.memo.kept.Reads as kept-reads
+use Rattle.blocks.proofs.state.args_of.Reads as args-of-reads
+use Rattle.blocks.proofs.state.channel.Reads as channel-reads
+use Rattle.blocks.proofs.state.head_of.Reads as head-of-reads
+use Rattle.blocks.proofs.state.kind_of.Reads as kind-of-reads
+use Rattle.blocks.proofs.state.leak_for.Reads as leak-for-reads
 use Rattle.blocks.proofs.state.renew.Reads as renew-reads
+use Rattle.blocks.proofs.state.segments_of.Reads as segments-of-reads
 
-returns : tie.Need-returns
-returns c = (rw (not-true (c .before .before .args .asked) (c .if1 .taken)), c .before .before .pre .1 .0 .2)
+channel-requires : tie.Need-channel-requires
+channel-requires c κs = search needs
+
+segments-of-requires : tie.Need-segments-of-requires
+segments-of-requires c κs = search needs
+
+head-of-requires : tie.Need-head-of-requires
+head-of-requires c κs = search needs
+
+args-of-requires : tie.Need-args-of-requires
+args-of-requires c κs = search needs
 
 kept-requires : tie.Need-kept-requires
-kept-requires c κs = let pre = c .before .before .before .before .pre .1 .0 in (pre .2 .size, pre .0 .size, pre .3 .size, pre .1)
+kept-requires c κs =
+    let pre = c .before .before .before .before .before .before .before .before .pre .1 .0 in
+    (pre .2 .size, pre .0 .size, c .before .before .before .args-of .ensures .size, pre .1)
 
 same-length : tie.Need-same-length
 same-length c = search needs
 
-returns-2 : tie.Need-returns-2
-returns-2 c =
-    let pre = c .before .before .before .before .before .before .pre .1 .0 in
-    (rw (not-false (c .before .before .before .before .before .before .args .asked) (c .before .before .before .before .if1 .left)) (memo-found _ (pre .0) _ (pre .1) _ _ _ _ _ _ (pre .3) _ (pre .2) _ (c .if2 .taken) (c .before .kept .ensures)), pre .2)
+returns : tie.Need-returns
+returns c =
+    let pre = c .before .before .before .before .before .before .before .before .before .before .pre .1 in
+    let o = c .before .before .before .before .before .before .before .before .channel .ensures in
+    let g = c .before .before .before .before .before .before .before .segments-of .ensures in
+    (slot-found _ _ _ _ _ _ _ _ (o .3) (o .1) (o .4) (g .1) _ (c .before .before .before .before .before .before .head-of .ensures) (c .before .before .before .before .before .args-of .ensures) _ (pre .1 .0) _ _ (pre .1 .1) (o .0) (g .0) _ (pre .0 .0) (pre .0 .1) _ (pre .0 .2) _ (c .if1 .taken) (c .before .kept .ensures), pre .0 .2)
+
+leak-for-requires : tie.Need-leak-for-requires
+leak-for-requires c κs =
+    let coded = c .before .before .before .before .before .before .before .before .before .before .pre .1 .0 .3 in
+    (coded .fast, coded .slow)
+
+kind-of-requires : tie.Need-kind-of-requires
+kind-of-requires c κs = c .before .before .before .before .before .before .before .before .before .before .before .pre .1 .0 .1
 
 renew-requires : tie.Need-renew-requires
-renew-requires c κs = c .before .before .before .before .before .before .before .before .pre
+renew-requires c κs =
+    let pre = c .before .before .before .before .before .before .before .before .before .before .before .before .before .before .before .pre in
+    let o = c .before .before .before .before .before .before .before .before .before .before .before .before .before .channel .ensures in
+    let g = c .before .before .before .before .before .before .before .before .before .before .before .before .segments-of .ensures in
+    let l = c .before .before .before .before .leak-for .ensures in
+    (pre .0, ((pre .1 .0 .0, pre .1 .0 .1, pre .1 .0 .2, says-slot _ _ _ _ _ _ _ _ (o .3) (o .1) (o .4) (g .1) _ (c .before .before .before .before .before .before .before .before .before .before .before .head-of .ensures) (c .before .before .before .before .before .before .before .before .before .before .args-of .ensures) _ (c .before .before .before .kind-of .ensures) _ (pre .1 .1 .0) _ (l .0)), (record { within = o .1; fgain = o .2; fast = l .1; slow = l .2; segs = g .1 }, rw (pre .1 .1 .0) (codes-tuned _ _ _ _ _ _ (pre .1 .0 .3 .rate)))))
 
 same-length-2 : tie.Need-same-length-2
 same-length-2 c = search needs
 
-returns-3 : tie.Need-returns-3
-returns-3 c = (rw (not-false (c .before .before .before .before .before .before .before .before .before .before .before .args .asked) (c .before .before .before .before .before .before .before .before .before .if1 .left)) (c .before .before .renew .ensures .0), c .before .before .renew .ensures .1)
+returns-2 : tie.Need-returns-2
+returns-2 c = (pointed-are _ _ _ _ _ _ _ (c .before .before .before .before .before .before .before .before .before .before .before .before .before .before .before .before .before .before .pre .1 .1 .1) _ (c .before .before .before .before .before .before .before .before .before .before .before .before .before .before .before .before .channel .ensures .0) _ (c .before .before .before .before .before .before .before .leak-for .ensures .0) _ (c .before .before .before .before .before .before .before .before .before .before .before .before .before .before .before .segments-of .ensures .0) _ (c .before .before .before .before .before .before .kind-of .ensures) _ (c .before .before .renew .ensures .0), c .before .before .renew .ensures .1)
 
 pub point-spec : {M : Type 1} → statement M
 point-spec =
-    tie.close (tie.spec returns kept-requires same-length returns-2 renew-requires same-length-2 returns-3)
+    tie.close
+    (tie.spec
+    channel-requires
+    segments-of-requires
+    head-of-requires
+    args-of-requires
+    kept-requires
+    same-length
+    returns
+    leak-for-requires
+    kind-of-requires
+    renew-requires
+    same-length-2
+    returns-2)

@@ -31,7 +31,7 @@ eight-requires-3 c κs = search needs
 
 returns : tie.Need-returns
 unfolding segmentsOf
-returns c = (rw (lt-ltb _ 6 (c .before .before .before .before .before .before .before .before .before .if1 .taken), c .before .before .before .before .before .before .least .ensures, c .before .before .before .before .before .before .before .index .ensures, c .before .before .eight .ensures, c .before .eight2 .ensures, c .eight3 .ensures), omega (arith, c .before .before .before .before .before .before .least .ensures))
+returns c = (rw (lt-ltb _ 6 (c .before .before .before .before .before .before .if1 .taken), c .before .before .before .least .ensures, c .before .before .before .before .index .ensures, c .before .before .eight .ensures, c .before .eight2 .ensures, c .eight3 .ensures), omega (arith, c .before .before .before .least .ensures))
 
 returns-2 : tie.Need-returns-2
 unfolding segmentsOf
