@@ -5,5 +5,7 @@ pub mod ExpActs
 pub mod AllocActs
 pub mod Takes
 pub mod Blocks
+pub mod Fields
+pub mod Following
+pub mod Settling
 pub mod Walks
-pub mod TwoRows

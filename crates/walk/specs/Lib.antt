@@ -8,4 +8,4 @@ pub mod Scans
 pub mod Syntax
 pub mod Steps
 pub mod Stands
-pub mod Pairs
+pub mod Calm

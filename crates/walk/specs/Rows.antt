@@ -1,6 +1,6 @@
 -- The rows of a syntax table: what a row's number says, and its tests and sums.
 use Prim.Native.Nat.{ℕ, _+_, _-_, _*_, _/_, _%_}
-use mathlib.Core.Bool.{Bool, true, false, cond, not}
+use mathlib.Core.Bool.{Bool, true, false, cond, not, _||_}
 use mathlib.Core.List.{List}
 use lib.Dec.{ltb, leb, eqb}
 use Rattle.walk.specs.Cells.{cellOf, heldOf}
@@ -68,21 +68,52 @@ addr base by row = record { base = base; by = by; row = row }
 abbrev pub sum : ℕ → ℕ → Sum
 sum number cell = record { number = number; cell = cell }
 
+-- the fields of a row's number
+abbrev pub formIn : ℕ → ℕ
+formIn w = w / 8 % 8
+
+abbrev pub numberIn : ℕ → ℕ
+numberIn w = w / 64 % 256
+
+abbrev pub addrIn : ℕ → Addr
+addrIn w = addr (w / 16384 % 1024) (w / 16777216 % 32) (w / 536870912 % 16)
+
+abbrev pub xIn : ℕ → ℕ
+xIn w = w / 8589934592 % 2048
+
+abbrev pub yIn : ℕ → ℕ
+yIn w = w / 17592186044416 % 1024
+
+abbrev pub zIn : ℕ → ℕ
+zIn w = w / 18014398509481984 % 1024
+
+-- the cell that is compared with, picked by the same counters; and the one that a value is made of
+abbrev pub thanIn : ℕ → Addr
+thanIn w = addr (zIn w) (w / 16777216 % 32) (w / 536870912 % 16)
+
+abbrev pub ofIn : ℕ → Addr
+ofIn w = addr (zIn w) (numberIn w) 0
+
+abbrev pub condIn : ℕ → Cond
+condIn w = condOf (formIn w) (addrIn w) (xIn w) (thanIn w)
+
+abbrev pub valueIn : ℕ → Value
+valueIn w = valueOf (formIn w) (xIn w) (yIn w) (ofIn w)
+
+abbrev pub countIn : ℕ → Count
+countIn w = boundOf (formIn w) (addrIn w)
+
 unfoldable pub rowOf : ℕ → Row
 rowOf w =
-    let form = w / 8 % 8 in
-    let number = w / 64 % 256 in
-    let base = w / 16384 % 1024 in
-    let by = w / 16777216 % 32 in
-    let row = w / 536870912 % 16 in
-    let x = w / 8589934592 % 2048 in
-    let y = w / 17592186044416 % 1024 in
-    let z = w / 18014398509481984 % 1024 in
-    cond (eqb (w % 8) 1) (Element number (sum y z) x (addr base by row))
-    (cond (eqb (w % 8) 2) (Span number (addr base by row))
-    (cond (eqb (w % 8) 3) (Scan number (addr base by row))
-    (cond (eqb (w % 8) 4) (When (condOf form (addr base by row) x (addr z by row)) y)
-    (cond (eqb (w % 8) 5) (Refuse (condOf form (addr base by row) x (addr z by row)) number)
-    (cond (eqb (w % 8) 6) (Each number (sum x z) (boundOf form (addr base by row)) y)
-    (cond (eqb (w % 8) 7) (Put (addr base by row) (valueOf form x y (addr z number 0)))
-    (Do number x)))))))
+    cond (eqb (w % 8) 1) (Element (numberIn w) (sum (yIn w) (zIn w)) (xIn w) (addrIn w))
+    (cond (eqb (w % 8) 2) (Span (numberIn w) (addrIn w))
+    (cond (eqb (w % 8) 3) (Scan (numberIn w) (addrIn w))
+    (cond (eqb (w % 8) 4) (When (condIn w) (yIn w))
+    (cond (eqb (w % 8) 5) (Refuse (condIn w) (numberIn w))
+    (cond (eqb (w % 8) 6) (Each (numberIn w) (sum (xIn w) (zIn w)) (countIn w) (yIn w))
+    (cond (eqb (w % 8) 7) (Put (addrIn w) (valueIn w))
+    (Do (numberIn w) (xIn w))))))))
+
+-- a row that reads nothing and has no rows of its own to repeat: a condition, a refusal or a value
+abbrev pub stillOf : ℕ → Bool
+stillOf w = eqb (w % 8) 4 || (eqb (w % 8) 5 || eqb (w % 8) 7)

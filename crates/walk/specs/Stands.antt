@@ -16,7 +16,7 @@ use Rattle.walk.specs.Syntax.{Block, flat, size, turns, meaning}
 use Rattle.walk.specs.declared.table.Row.{Row}
 use Rattle.walk.specs.declared.table.Row.the-variants.{Element, Span, Scan, When, Refuse, Each, Put, Do}
 use Rattle.walk.specs.declared.steps.How.{How}
-use Rattle.walk.specs.declared.steps.How.the-variants.{Bits, Region, Inside}
+use Rattle.walk.specs.declared.steps.How.the-variants.{Bits, Region}
 
 -- the rows of a block stand in a table from one place to another
 pub record Stands (t : List ℕ) (b : Block) (from to : ℕ) : Type 0 where
@@ -58,12 +58,10 @@ pub record Stand (s : List ℕ) (l : ℕ) (t bins mem : List ℕ) (c : Cursor) (
 abbrev pub fitting : How → ℕ
 fitting (Bits w) = w
 fitting (Region w) = 0
-fitting Inside = 0
 
-pub record Fit (s : List ℕ) (l : ℕ) (bins : List ℕ) (how : How) : Type 0 where
+pub record Fit (s : List ℕ) (l : ℕ) (how : How) : Type 0 where
   pub small : fitting how ≤ 32
   pub within : l ≤ 8 * length s
-  pub held : Held bins
 
 -- a run of the rows is the tree of each block that they are
 pub record Ran (s : List ℕ) (l : ℕ) (t : List ℕ) (from to : ℕ) (c : Cursor) (st : State) (m : Room) (c′ : Cursor) (st′ : State) (m′ : Room) (mem′ : List ℕ) : Type 0 where

@@ -6,8 +6,10 @@ ghost use lib.Dec.{ltb};
 ghost use Rattle.reading.specs.Room.{room};
 ghost use Rattle.syntax.specs.Records.{told, haltedAt};
 ghost use Rattle.walk.specs.Cells.{state, signed};
-ghost use Rattle.walk.specs.Steps.{scanOf, lookOf, ioOf};
+ghost use Rattle.walk.specs.Steps.{scanOf, lookOf, Took, scanned};
 ghost use Rattle.walk.specs.Stands.{Fit};
+use crate::cells::BLOCK;
+use crate::cells::cell_of;
 use crate::cells::put;
 use crate::shapes::shape_of;
 use crate::steps::Ask;
@@ -85,16 +87,9 @@ fn inside(src: &[u8], cells: &[u16; 640], bins: &[u8; 3584], at: BitPlace, limit
     Look::Missed(t.number, end)
 }
 
-fn seek(
-    src: &[u8],
-    cells: &[u16; 640],
-    bins: &[u8; 3584],
-    at: BitPlace,
-    limit: BitPlace,
-    how: How,
-) -> Look
-    requires { ⌜ Fit (now src) (limit .0) (now bins) how ⌝ }
-    ensures { λ r. ⌜ r ≡ lookOf (now (src .entry)) (limit .0) (at .0) (state (now (cells .entry)) (now (bins .entry))) how ⌝ }
+fn seek(src: &[u8], at: BitPlace, limit: BitPlace, how: How) -> Look
+    requires { ⌜ Fit (now src) (limit .0) how ⌝ }
+    ensures { λ r. ⌜ r ≡ lookOf (now (src .entry)) (limit .0) (at .0) how ⌝ }
 {
     match how {
         How::Bits(w) => {
@@ -110,12 +105,59 @@ fn seek(
             }
             Look::Found(at.0 + w, w, 0, 0)
         }
-        How::Inside => inside(src, cells, bins, at, limit),
     }
 }
 
-// The only place that reads input and makes records.
+// Bits that are read as an element, or passed over.
 pub fn take(
+    src: &[u8],
+    names: &mut [u8],
+    blocks: &mut [i8],
+    indexes: &mut [i16],
+    firsts: &mut [u16],
+    widths: &mut [u16],
+    values: &mut [u32],
+    cells: &mut [u16; 640],
+    at: BitPlace,
+    count: usize,
+    limit: BitPlace,
+    ask: Ask,
+) -> Cursor
+    requires { ⌜ Fit (now src) (limit .0) (ask .how) ⌝ }
+    ensures { λ r. ⌜ Took (now (src .entry)) (limit .0) ask (now (cells .entry)) (at .0) count (room (now (names .entry)) (now (blocks .entry)) (now (indexes .entry)) (now (firsts .entry)) (now (widths .entry)) (now (values .entry)))
+        r (now (cells .exit)) (room (now (names .exit)) (now (blocks .exit)) (now (indexes .exit)) (now (firsts .exit)) (now (widths .exit)) (now (values .exit))) ⌝ }
+{
+    let name = ask.name;
+    let k = ask.keep;
+    let how = ask.how;
+    match seek(src, at, limit, how) {
+        Look::Found(end, width, value, tell) => {
+            let block = block_part(ask.block);
+            let index = index_part(ask.index);
+            put(cells, k, tell);
+            keep(
+                names,
+                blocks,
+                indexes,
+                firsts,
+                widths,
+                values,
+                count,
+                name,
+                block,
+                index,
+                at,
+                width,
+                value,
+                BitPlace(end),
+            )
+        }
+        Look::Missed(number, place) => halted(BitPlace(place), count, number),
+    }
+}
+
+// The mantissas of a block, as one record; the cell k keeps the number of tags.
+pub fn scan(
     src: &[u8],
     names: &mut [u8],
     blocks: &mut [i8],
@@ -128,19 +170,17 @@ pub fn take(
     at: BitPlace,
     count: usize,
     limit: BitPlace,
-    ask: Ask,
+    name: u8,
+    k: usize,
 ) -> Cursor
-    requires { ⌜ Fit (now src) (limit .0) (now bins) (ask .how) ⌝ }
+    requires { ⌜ (length (now bins) ≡ 3584) × (limit .0 ≤ 8 * length (now src)) ⌝ }
     ensures { λ r. ⌜ told r (state (now (cells .exit)) (now (bins .entry))) (room (now (names .exit)) (now (blocks .exit)) (now (indexes .exit)) (now (firsts .exit)) (now (widths .exit)) (now (values .exit)))
-        ≡ ioOf (now (src .entry)) (limit .0) ask (state (now (cells .entry)) (now (bins .entry))) (at .0) count (room (now (names .entry)) (now (blocks .entry)) (now (indexes .entry)) (now (firsts .entry)) (now (widths .entry)) (now (values .entry))) ⌝ }
+        ≡ scanned (now (src .entry)) (limit .0) name k (state (now (cells .entry)) (now (bins .entry))) (at .0) count (room (now (names .entry)) (now (blocks .entry)) (now (indexes .entry)) (now (firsts .entry)) (now (widths .entry)) (now (values .entry))) ⌝ }
 {
-    let name = ask.name;
-    let k = ask.keep;
-    let how = ask.how;
-    match seek(src, cells, bins, at, limit, how) {
+    match inside(src, cells, bins, at, limit) {
         Look::Found(end, width, value, tell) => {
-            let block = block_part(ask.block);
-            let index = index_part(ask.index);
+            let block = block_part(cell_of(cells, BLOCK));
+            let index = index_part(0);
             put(cells, k, tell);
             keep(
                 names,

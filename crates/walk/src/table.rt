@@ -5,9 +5,12 @@
 //   number   8 bits  a name, refusal, counter or act    x       11 bits  a number
 //   base    10 bits  a cell                             y       10 bits  a number
 //                                                       z       10 bits  a cell
+//
+// The enums say what a row's number means (specs/Rows); the functions read of the number what they need.
 ghost use mathlib.Core.Path.{_≡_};
-ghost use Prim.Native.Nat.{_*_, _-_, _≤_};
-ghost use Rattle.walk.specs.Rows.{condOf, valueOf, boundOf, holdsOf, amountOf, countOf, rowOf};
+ghost use Prim.Native.Nat.{_*_, _-_, _≤_, _<_};
+ghost use Rattle.walk.specs.Cells.{cellOf, placeOf};
+ghost use Rattle.walk.specs.Rows.{numberIn, addrIn, xIn, yIn, zIn, thanIn, ofIn, condIn, valueIn, countIn, holdsOf, amountOf, countOf};
 use crate::cells::Addr;
 use crate::cells::Sum;
 use crate::cells::cell_of;
@@ -81,179 +84,129 @@ pub enum Row {
     },
 }
 
-fn cond_of(form: u64, at: Addr, x: u16, than: Addr) -> Cond
-    ensures { λ r. ⌜ r ≡ condOf form at x than ⌝ }
+// The fields of a row's number.
+pub fn number_of(w: u64) -> u8
+    ensures { λ r. ⌜ r ≡ numberIn w ⌝ }
 {
-    if form == 0 {
-        return Cond::Is(at, x);
-    }
-    if form == 1 {
-        return Cond::Not(at, x);
-    }
-    if form == 2 {
-        return Cond::Above(at, x);
-    }
-    if form == 3 {
-        return Cond::Below(at, x);
-    }
-    if form == 4 {
-        return Cond::Odd(at);
-    }
-    if form == 5 {
-        return Cond::Differs(at, than);
-    }
-    if form == 6 {
-        return Cond::AtLeast(at, than);
-    }
-    Cond::Over(at, than)
+    (w / 64 % 256) as u8
 }
 
-fn value_of(form: u64, x: u16, y: u16, of: Addr) -> Value
-    ensures { λ r. ⌜ r ≡ valueOf form x y of ⌝ }
+pub fn at_of(w: u64) -> Addr
+    ensures { λ r. ⌜ r ≡ addrIn w ⌝ }
 {
-    if form == 0 {
-        return Value::Here;
-    }
-    if form == 1 {
-        return Value::Let(x, y, of);
-    }
-    if form == 2 {
-        return Value::Less(x, y, of);
-    }
-    if form == 3 {
-        return Value::Plus(of);
-    }
-    Value::Minus(of)
-}
-
-fn bound_of(form: u64, at: Addr) -> Count
-    ensures { λ r. ⌜ r ≡ boundOf form at ⌝ }
-{
-    if form == 0 {
-        return Count::Held(at);
-    }
-    Count::Fixed(at.base)
-}
-
-// What a row's number says.
-pub fn decode(w: u64) -> Row
-    ensures { λ r. ⌜ r ≡ rowOf w ⌝ }
-{
-    let kind = w % 8;
-    let form = w / 8 % 8;
-    let number = (w / 64 % 256) as u8;
     let base = (w / 16384 % 1024) as u16;
     let by = (w / 16777216 % 32) as u16;
     let row = (w / 536870912 % 16) as u16;
-    let x = (w / 8589934592 % 2048) as u16;
-    let y = (w / 17592186044416 % 1024) as u16;
-    let z = (w / 18014398509481984 % 1024) as u16;
-    let at = Addr {
+    Addr {
         base: base,
         by: by,
         row: row,
-    };
-    if kind == 1 {
-        return Row::Element {
-            name: number,
-            index: Sum { number: y, cell: z },
-            width: x,
-            keep: at,
-        };
-    }
-    if kind == 2 {
-        return Row::Span {
-            name: number,
-            width: at,
-        };
-    }
-    if kind == 3 {
-        return Row::Scan {
-            name: number,
-            keep: at,
-        };
-    }
-    if kind == 4 {
-        return Row::When {
-            cond: cond_of(
-                form,
-                at,
-                x,
-                Addr {
-                    base: z,
-                    by: by,
-                    row: row,
-                },
-            ),
-            rows: y,
-        };
-    }
-    if kind == 5 {
-        return Row::Refuse {
-            cond: cond_of(
-                form,
-                at,
-                x,
-                Addr {
-                    base: z,
-                    by: by,
-                    row: row,
-                },
-            ),
-            number: number,
-        };
-    }
-    if kind == 6 {
-        return Row::Each {
-            counter: number,
-            from: Sum { number: x, cell: z },
-            to: bound_of(form, at),
-            rows: y,
-        };
-    }
-    if kind == 7 {
-        return Row::Put {
-            at: at,
-            value: value_of(
-                form,
-                x,
-                y,
-                Addr {
-                    base: z,
-                    by: number as u16,
-                    row: 0,
-                },
-            ),
-        };
-    }
-    Row::Do {
-        act: number,
-        with: x,
     }
 }
 
-pub fn holds(c: Cond, cells: &[u16; 640]) -> bool
-    ensures { λ r. ⌜ r ≡ holdsOf c (now (cells .entry)) ⌝ }
+pub fn x_of(w: u64) -> u16
+    ensures { λ r. ⌜ r ≡ xIn w ⌝ }
 {
-    match c {
-        Cond::Is(a, x) => held(a, cells) == x,
-        Cond::Not(a, x) => held(a, cells) != x,
-        Cond::Above(a, x) => x < held(a, cells),
-        Cond::Below(a, x) => held(a, cells) < x,
-        Cond::Odd(a) => held(a, cells) % 2 == 1,
-        Cond::Differs(a, b) => held(a, cells) != held(b, cells),
-        Cond::AtLeast(a, b) => held(b, cells) <= held(a, cells),
-        Cond::Over(a, b) => held(b, cells) < held(a, cells),
+    (w / 8589934592 % 2048) as u16
+}
+
+pub fn y_of(w: u64) -> u16
+    ensures { λ r. ⌜ r ≡ yIn w ⌝ }
+{
+    (w / 17592186044416 % 1024) as u16
+}
+
+pub fn z_of(w: u64) -> u16
+    ensures { λ r. ⌜ r ≡ zIn w ⌝ }
+{
+    (w / 18014398509481984 % 1024) as u16
+}
+
+fn than_of(w: u64) -> Addr
+    ensures { λ r. ⌜ r ≡ thanIn w ⌝ }
+{
+    let at = at_of(w);
+    Addr {
+        base: z_of(w),
+        by: at.by,
+        row: at.row,
     }
 }
 
-pub fn count_of(c: Count, cells: &[u16; 640]) -> u16
-    ensures { λ r. ⌜ r ≡ countOf c (now (cells .entry)) ⌝ }
+fn of_of(w: u64) -> Addr
+    ensures { λ r. ⌜ r ≡ ofIn w ⌝ }
 {
-    match c {
-        Count::Fixed(n) => n,
-        Count::Held(a) => held(a, cells),
+    let by = number_of(w) as u16;
+    Addr {
+        base: z_of(w),
+        by: by,
+        row: 0,
     }
+}
+
+fn wide(x: u16) -> usize
+    ensures { λ r. ⌜ (r ≡ x) × (r < 65536) ⌝ }
+{
+    x as usize
+}
+
+// What a counter holds, read without a jump.
+fn counter(cells: &[u16; 640], k: u16) -> usize
+    requires { ⌜ k < 640 ⌝ }
+    ensures { λ r. ⌜ (r ≡ cellOf (now (cells .entry)) k) × (r < 65536) ⌝ }
+{
+    let i = k as usize;
+    let v = wide(cells[i]);
+    if i == 0 { 0 } else { v }
+}
+
+// The cell at a row's address.
+pub fn spot(w: u64, cells: &[u16; 640]) -> usize
+    ensures { λ r. ⌜ r ≡ placeOf (addrIn w) (now (cells .entry)) ⌝ }
+{
+    let at = at_of(w);
+    let column = at.base as usize + counter(cells, at.by);
+    column + 8 * counter(cells, at.row)
+}
+
+// Whether the condition of a row holds. The forms that are met most come first.
+pub fn tests(w: u64, cells: &[u16; 640]) -> bool
+    ensures { λ r. ⌜ r ≡ holdsOf (condIn w) (now (cells .entry)) ⌝ }
+{
+    let form = w / 8 % 8;
+    let a = cell_of(cells, spot(w, cells));
+    let x = x_of(w);
+    if form == 0 {
+        return a == x;
+    }
+    if form < 2 {
+        return a != x;
+    }
+    if form < 3 {
+        return x < a;
+    }
+    if form < 4 {
+        return a < x;
+    }
+    if form < 5 {
+        return a % 2 == 1;
+    }
+    let b = held(than_of(w), cells);
+    if form < 6 {
+        return a != b;
+    }
+    if form < 7 { b <= a } else { b < a }
+}
+
+// Up to where the loop of a row counts.
+pub fn count_of(w: u64, cells: &[u16; 640]) -> u16
+    ensures { λ r. ⌜ r ≡ countOf (countIn w) (now (cells .entry)) ⌝ }
+{
+    let at = at_of(w);
+    if w / 8 % 8 == 0 {
+        return held(at, cells);
+    }
+    at.base
 }
 
 fn product(a: u16, b: u16) -> u32
@@ -268,15 +221,25 @@ fn less(a: u32, b: u32) -> u32
     if b < a { a - b } else { 0 }
 }
 
-// What is put into the cell k.
-pub fn amount_of(v: Value, k: usize, at: BitPlace, cells: &[u16; 640]) -> u32
-    ensures { λ r. ⌜ r ≡ amountOf v k (at .0) (now (cells .entry)) ⌝ }
+// What a row puts into the cell k.
+pub fn amount_of(w: u64, k: usize, here: BitPlace, cells: &[u16; 640]) -> u32
+    ensures { λ r. ⌜ r ≡ amountOf (valueIn w) k (here .0) (now (cells .entry)) ⌝ }
 {
-    match v {
-        Value::Here => at.0 as u32,
-        Value::Let(x, y, a) => x as u32 + product(y, held(a, cells)),
-        Value::Less(x, y, a) => less(product(y, held(a, cells)), x as u32),
-        Value::Plus(a) => cell_of(cells, k) as u32 + held(a, cells) as u32,
-        Value::Minus(a) => less(cell_of(cells, k) as u32, held(a, cells) as u32),
+    let form = w / 8 % 8;
+    if form == 0 {
+        return here.0 as u32;
+    }
+    let a = held(of_of(w), cells);
+    if form < 2 {
+        return x_of(w) as u32 + product(y_of(w), a);
+    }
+    if form < 3 {
+        return less(product(y_of(w), a), x_of(w) as u32);
+    }
+    let v = cell_of(cells, k) as u32;
+    if form < 4 {
+        v + a as u32
+    } else {
+        less(v, a as u32)
     }
 }
