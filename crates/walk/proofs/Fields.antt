@@ -1,17 +1,16 @@
 -- What a row's number says: its kind, its address, and what it comes to. Assumes nothing.
-use Prim.Native.Nat.{ℕ, _+_, _*_, _/_, _%_, _≤_, _<_}
+use Prim.Native.Nat.{ℕ, _%_, _≤_, _<_}
 use mathlib.Core.Bool.{Bool, true, false, cond, _||_}
-use mathlib.Core.Path.{_≡_, refl, sym, ap, _∙_}
+use mathlib.Core.Path.{_≡_, refl}
 use mathlib.Core.List.{List}
 use native.Mathlib.Omega.{arith}
 use lib.Dec.{eqb}
 use borrow.Author.Tests.{eq-eqb, ne-eqb}
-use Rattle.walk.specs.Cells.{state, cellOf, putIn, placeOf, heldOf}
-use Rattle.walk.specs.Rows.{holdsOf, amountOf, sum, numberIn, addrIn, xIn, yIn, zIn, condIn, valueOf, valueIn, countIn, rowOf, stillOf}
-use Rattle.walk.specs.Steps.{go, stop, next, moved, asked, askedBy, loopBy, stepOf, Comes}
+use Rattle.walk.specs.Cells.{state, putIn, placeOf, heldOf}
+use Rattle.walk.specs.Rows.{holdsOf, amountOf, sum, numberIn, addrIn, xIn, yIn, condIn, valueOf, valueIn, rowOf, stillOf}
+use Rattle.walk.specs.Steps.{go, stop, moved, asked, askedBy, loopBy, stepOf, Comes}
 use Rattle.walk.specs.declared.cells.Addr.{Addr}
 use Rattle.walk.specs.declared.table.Value.the-variants.{Minus}
-use Rattle.walk.specs.declared.table.Row.the-variants.{Element, Span, Scan, When, Refuse, Each, Put, Do}
 use Rattle.walk.specs.declared.steps.Ask.{Ask}
 use Rattle.walk.specs.declared.steps.How.the-variants.{Region}
 use Rattle.walk.specs.declared.steps.Next.{Next}

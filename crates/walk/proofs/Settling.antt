@@ -16,7 +16,7 @@ use Rattle.walk.specs.Rows.{holdsOf, amountOf, numberIn, addrIn, yIn, co
 use Rattle.walk.specs.Syntax.{Item, Block, element, span, scan, when, reject, each, put, act, end, _⨾_, turns, meaning, flat}
 use Rattle.walk.specs.Steps.{go, stop, Moved, moved, stepOf}
 use Rattle.walk.specs.Stands.{Stands}
-use Rattle.walk.specs.Calm.{Standing, Leads, SettledBy, Settles, Hushed, StirredBy, Stirs}
+use Rattle.walk.specs.Calm.{Standing, Leads, Settles, All, Hushed, Stirs}
 use Rattle.walk.specs.declared.steps.Calm.{Calm}
 use Rattle.walk.specs.declared.steps.Calm.the-variants.{On, Off}
 use Rattle.walk.proofs.Fields.{when-step, refuse-step, put-step}
@@ -149,24 +149,20 @@ module _ (t : List ℕ) (from to i n k p : ℕ) (m₀ : List ℕ) where
             inv .rest bins b s₀ s l c z ∙ turns-more s l n j k b (state m bins) p c z less ∙ ap (λ (o : Out State). o then turning s l n (j + 1) k b) d;
       }
 
--- all rows before k are still
-pub record QuietInv (t : List ℕ) (from k : ℕ) : Type 0 where
-  pub all : (j : ℕ) → from ≤ j → j < k → stillOf (getD t j 0) ≡ true
+-- the test of the rows, at k
+module _ {Such : ℕ → Type 0} (t : List ℕ) (from : ℕ) where
+  pub all-start : All Such true t from from
+  all-start = record { is = λ _ j h less. absurd (let z : ⊥ = omega arith in z) }
 
-pub quiet-more : (t : List ℕ) (from k : ℕ) → QuietInv t from k → stillOf (getD t k 0) ≡ true → QuietInv t from (k + 1)
-quiet-more t from k inv e = record { all = λ j h less. by j h (decLt j k) less }
-  where
-    by : (j : ℕ) → from ≤ j → Dec (j < k) → j < k + 1 → stillOf (getD t j 0) ≡ true
-    by j h (yes a) less = inv .all j h a
-    by j h (no a) less = let q : j ≡ k = omega arith in rw q e
+  pub all-more : (k : ℕ) → All Such true t from k → Such (getD t k 0) → All Such true t from (k + 1)
+  all-more k inv e = record { is = λ _ j h less. by j h (decLt j k) less }
+    where
+      by : (j : ℕ) → from ≤ j → Dec (j < k) → j < k + 1 → Such (getD t j 0)
+      by j h (yes a) less = inv .is refl j h a
+      by j h (no a) less = let q : j ≡ k = omega arith in rw q e
 
--- all rows before k are elements and derivations
-pub record PlainInv (t : List ℕ) (from k : ℕ) : Type 0 where
-  pub all : (j : ℕ) → from ≤ j → j < k → getD t j 0 % 8 ≤ 1
+  pub all-end : (k to : ℕ) → All Such true t from k → to ≤ k → All Such true t from to
+  all-end k to inv h = record { is = λ _ j g less. inv .is refl j g (omega arith) }
 
-pub plain-more : (t : List ℕ) (from k : ℕ) → PlainInv t from k → getD t k 0 % 8 ≤ 1 → PlainInv t from (k + 1)
-plain-more t from k inv e = record { all = λ j h less. by j h (decLt j k) less }
-  where
-    by : (j : ℕ) → from ≤ j → Dec (j < k) → j < k + 1 → getD t j 0 % 8 ≤ 1
-    by j h (yes a) less = inv .all j h a
-    by j h (no a) less = let q : j ≡ k = omega arith in rw q e
+  pub not-all : (to : ℕ) → All Such false t from to
+  not-all to = record { is = λ e. absurd (let z : _≡_ {A = ℕ} 0 1 = cc in omega arith) }

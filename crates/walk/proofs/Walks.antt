@@ -1,10 +1,9 @@
 -- The loop over the rows and the loop over the turns: their invariants, and how each way of a turn keeps them. Assumes nothing.
-use Prim.Native.Nat.{ℕ, suc, _+_, _-_, _*_, _≤_, _<_}
+use Prim.Native.Nat.{ℕ, _+_, _-_, _*_, _≤_, _<_}
 use mathlib.Core.Bool.{Bool, true, false, cond}
 use mathlib.Core.Path.{_≡_, refl, sym, ap, subst, _∙_}
 use mathlib.Core.List.{List}
 use native.Mathlib.Omega.{arith}
-use native.Mathlib.Numerals.{add-one}
 use lib.Dec.{eqb}
 use mir.Val.{Fits}
 use mir.Syntax.{w64}
@@ -12,10 +11,10 @@ use lib.ListN.{length, getD, length-map}
 use Rattle.reading.specs.Tree.{Tree, _>>=_}
 use Rattle.reading.specs.Run.{accepted, refused}
 use Rattle.reading.specs.Room.{Room, Out, got, exec}
-use Rattle.reading.proofs.Rooms.{go-on, _then_, exec-bind, then-done}
+use Rattle.reading.proofs.Rooms.{go-on, _then_, exec-bind}
 use Rattle.syntax.specs.Records.{told, haltedAt}
 use Rattle.syntax.specs.declared.Cursor.{Cursor}
-use Rattle.walk.specs.Cells.{State, state, putIn, kept}
+use Rattle.walk.specs.Cells.{State, state, putIn}
 use Rattle.walk.specs.Rows.{rowOf, stillOf}
 use Rattle.blocks.specs.Held.{Held}
 use Rattle.blocks.specs.Memo.{Memo}

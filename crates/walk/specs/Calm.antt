@@ -26,6 +26,7 @@ pub record Leads (t : List ℕ) (from to p : ℕ) (m m′ : List ℕ) (k : ℕ) 
   pub rest : (bins : List ℕ) (b : Block) → Stands t b from to
       → (r : Block) × Stands t r k to × ((s : List ℕ) (l n : ℕ) (z : Room) → exec s l (meaning b (state m bins)) p n z ≡ exec s l (meaning r (state m′ bins)) p n z)
 
+-- what still rows come to: they lead to a row that is not still, or to the end; or all that stands there is refused
 abbrev pub SettledBy : List ℕ → ℕ → ℕ → ℕ → List ℕ → List ℕ → Calm → Type 0
 SettledBy t from to p m m′ (On k) = Leads t from to p m m′ k × (k < to → stillOf (getD t k 0) ≡ false)
 SettledBy t from to p m m′ (Off k) =
@@ -34,13 +35,16 @@ SettledBy t from to p m m′ (Off k) =
 pub record Settles (t : List ℕ) (from to p : ℕ) (m m′ : List ℕ) (r : Calm) : Type 0 where
   pub is : SettledBy t from to p m m′ r
 
--- all rows from one to another are still
-pub record Hushed (r : Bool) (t : List ℕ) (from to : ℕ) : Type 0 where
-  pub is : r ≡ true → (k : ℕ) → from ≤ k → k < to → stillOf (getD t k 0) ≡ true
+-- a test has found that all rows from one to another are such rows
+pub record All (Such : ℕ → Type 0) (r : Bool) (t : List ℕ) (from to : ℕ) : Type 0 where
+  pub is : r ≡ true → (k : ℕ) → from ≤ k → k < to → Such (getD t k 0)
 
--- all rows from one to another are elements and derivations
-pub record Plain (r : Bool) (t : List ℕ) (from to : ℕ) : Type 0 where
-  pub is : r ≡ true → (k : ℕ) → from ≤ k → k < to → getD t k 0 % 8 ≤ 1
+-- they are still; they are elements and derivations
+abbrev pub Hushed : Bool → List ℕ → ℕ → ℕ → Type 0
+Hushed = All (λ w. stillOf w ≡ true)
+
+abbrev pub Plain : Bool → List ℕ → ℕ → ℕ → Type 0
+Plain = All (λ w. w % 8 ≤ 1)
 
 -- still rows once for each number from i up to n, which stands in the cell k
 abbrev pub StirredBy : List ℕ → ℕ → ℕ → ℕ → ℕ → ℕ → ℕ → List ℕ → List ℕ → Calm → Type 0

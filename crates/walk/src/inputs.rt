@@ -1,10 +1,9 @@
 // Input and output: bits are looked at, a record is made, a value is kept.
 ghost use mathlib.Core.Path.{_≡_};
-ghost use Prim.Native.Nat.{_+_, _*_, _≤_};
+ghost use Prim.Native.Nat.{_*_, _≤_};
 ghost use lib.ListN.{length};
-ghost use lib.Dec.{ltb};
 ghost use Rattle.reading.specs.Room.{room};
-ghost use Rattle.syntax.specs.Records.{told, haltedAt};
+ghost use Rattle.syntax.specs.Records.{told};
 ghost use Rattle.walk.specs.Cells.{state, signed};
 ghost use Rattle.walk.specs.Steps.{scanOf, lookOf, Took, scanned};
 ghost use Rattle.walk.specs.Stands.{Fit};
@@ -18,34 +17,14 @@ use bits::BitPlace;
 use bits::get;
 use blocks::plan::mantissas;
 use syntax::Cursor;
+use syntax::halted;
 use syntax::keep;
+use syntax::past;
 
 // What was found: where it ends, its width, its value, and the value that is kept; or a refusal and its place.
 pub enum Look {
     Found(u16, u16, u32, u32),
     Missed(u8, u16),
-}
-
-// Whether `wide` bits from `at` on pass the end.
-fn past(at: BitPlace, wide: u16, end: BitPlace) -> bool
-    ensures { λ r. ⌜ r ≡ ltb (end .0) (at .0 + wide) ⌝ }
-{
-    if end.0 < wide {
-        true
-    } else {
-        end.0 - wide < at.0
-    }
-}
-
-pub fn halted(at: BitPlace, count: usize, number: u8) -> Cursor
-    ensures { λ r. ⌜ r ≡ haltedAt (at .0) count number ⌝ }
-{
-    Cursor {
-        at: at,
-        count: count,
-        stopped: true,
-        number: number,
-    }
 }
 
 // A part of a record, of a number that is one more.

@@ -18,7 +18,6 @@ ghost use Rattle.walk.specs.Calm.{Plain};
 use acts::act;
 use bits::BitPlace;
 use cells::put;
-use inputs::halted;
 use inputs::scan;
 use inputs::take;
 use steps::Calm;
@@ -30,6 +29,7 @@ use steps::settle;
 use steps::step;
 use steps::stir;
 use syntax::Cursor;
+use syntax::halted;
 use table::number_of;
 use table::x_of;
 

@@ -15,7 +15,7 @@ use Rattle.walk.proofs.once.Kinds as once-kinds
 use Rattle.walk.proofs.+each+once.Lts-once as once-lts
 use Rattle.walk.proofs.acts.act.Reads as act-reads
 use Rattle.walk.proofs.cells.put.Reads as put-reads
-use Rattle.walk.proofs.inputs.halted.Reads as halted-reads
+use Rattle.syntax.proofs.halted.Reads as halted-reads
 use Rattle.walk.proofs.inputs.scan.Reads as scan-reads
 use Rattle.walk.proofs.inputs.take.Reads as take-reads
 use Rattle.walk.proofs.lines.Reads as lines-reads

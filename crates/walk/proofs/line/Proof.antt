@@ -11,7 +11,7 @@ use Rattle.walk.proofs.line.Tie as tie
 use Rattle.walk.proofs.line.Reads as reads
 use Rattle.walk.proofs.line.Lts as lts
 use Rattle.walk.proofs.acts.act.Reads as act-reads
-use Rattle.walk.proofs.inputs.halted.Reads as halted-reads
+use Rattle.syntax.proofs.halted.Reads as halted-reads
 use Rattle.walk.proofs.inputs.take.Reads as take-reads
 use Rattle.walk.proofs.onward.Reads as onward-reads
 use Rattle.walk.proofs.steps.ask_of.Reads as ask-of-reads

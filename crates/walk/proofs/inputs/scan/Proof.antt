@@ -10,7 +10,7 @@ use Rattle.syntax.proofs.keep.Reads as keep-reads
 use Rattle.walk.proofs.cells.cell_of.Reads as cell-of-reads
 use Rattle.walk.proofs.cells.put.Reads as put-reads
 use Rattle.walk.proofs.inputs.block_part.Reads as block-part-reads
-use Rattle.walk.proofs.inputs.halted.Reads as halted-reads
+use Rattle.syntax.proofs.halted.Reads as halted-reads
 use Rattle.walk.proofs.inputs.index_part.Reads as index-part-reads
 use Rattle.walk.proofs.inputs.inside.Reads as inside-reads
 

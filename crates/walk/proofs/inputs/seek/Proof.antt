@@ -1,13 +1,12 @@
 use Rattle.walk.proofs.Takes.{bits-past, bits-found, region-past, region-found, fit-small}
 use Rattle.syntax.proofs.Recording.{fits16}
-use native.Mathlib.Omega.{arith}
 use borrow.Author.Needs.{needs}
 use Rattle.walk.proofs.inputs.seek.Statement.{statement}
 use Rattle.walk.proofs.inputs.seek.Tie as tie
 use Rattle.walk.proofs.inputs.seek.Reads as reads
 use Rattle.walk.proofs.inputs.seek.Lts as lts
 use Rattle.bits.proofs.get.Reads as get-reads
-use Rattle.walk.proofs.inputs.past.Reads as past-reads
+use Rattle.syntax.proofs.past.Reads as past-reads
 
 enum-known-how : tie.Need-enum-known-how
 enum-known-how c = search needs

@@ -1,7 +1,6 @@
 use Rattle.walk.proofs.Numbers.{product-le}
 use native.Mathlib.Omega.{arith}
 use mathlib.Core.Path.{refl}
-use borrow.Author.Needs.{needs}
 use Rattle.walk.proofs.table.product.Statement.{statement}
 use Rattle.walk.proofs.table.product.Tie as tie
 use Rattle.walk.proofs.table.product.Reads as reads
