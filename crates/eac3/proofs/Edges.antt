@@ -11,11 +11,11 @@ use Rattle.alloc.specs.Allocation.{snroffset}
 use Rattle.walk.specs.Acts.{powersBelow, blkstrtinfoBits}
 use Rattle.walk.specs.Cells.{cellOf, putIn}
 use Rattle.walk.specs.Syntax.{turns, item, meaning}
-use Rattle.eac3.specs.Audblk.{cpl-strategy, bandwidth}
-use Rattle.eac3.specs.Blocks.{_⧺_}
-use Rattle.eac3.specs.Syncinfo.{syncinfo}
-use Rattle.eac3.specs.Bsi.{bsi-head, bsi}
-use Rattle.eac3.specs.Annex.{header, body}
+use Rattle.annex.specs.Audblk.{cpl-strategy, bandwidth}
+use Rattle.walk.specs.Syntax.{_⧺_}
+use Rattle.annex.specs.Syncinfo.{syncinfo}
+use Rattle.annex.specs.Bsi.{bsi-head, bsi}
+use Rattle.annex.specs.Annex.{header, body}
 use Rattle.eac3.specs.Frame.{start, eac3}
 use Rattle.eac3.specs.Edges.{Edge, edges}
 

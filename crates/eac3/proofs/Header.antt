@@ -12,8 +12,8 @@ use Rattle.reading.proofs.Theorem.{common-reading}
 use Rattle.walk.specs.Cells.{State, cellOf, putIn}
 use Rattle.walk.specs.CellNames.{FRMSIZ}
 use Rattle.walk.specs.Syntax.{meaning}
-use Rattle.eac3.specs.Syncinfo.{syncinfo}
-use Rattle.eac3.specs.Annex.{header}
+use Rattle.annex.specs.Syncinfo.{syncinfo}
+use Rattle.annex.specs.Annex.{header}
 use Rattle.eac3.specs.Frame.{start, bytesOf, announcedBy, eac3}
 use Rattle.eac3.proofs.Gives.{Gives, gives-next, gives-element, gives-put, gives-reject, gives-end}
 

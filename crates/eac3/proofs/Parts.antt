@@ -22,7 +22,7 @@ use Rattle.walk.specs.Cells.{State, state, cellOf}
 use Rattle.walk.specs.CellNames.{FRMSIZ}
 use Rattle.walk.specs.Syntax.{meaning}
 use Rattle.frame.proofs.Steps.{drops}
-use Rattle.eac3.specs.Annex.{header, body}
+use Rattle.annex.specs.Annex.{header, body}
 use Rattle.eac3.specs.Frame.{start, tailNames, bytesOf, eac3}
 use Rattle.eac3.specs.Answer.{answered, answerBy, answerOf, Called, toldOf}
 use Rattle.eac3.specs.Parts.{placed, followed, bodyOf, readOf}

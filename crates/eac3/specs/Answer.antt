@@ -12,7 +12,7 @@ use Rattle.syntax.specs.declared.Cursor.{Cursor}
 use Rattle.walk.specs.Cells.{State, cellOf}
 use Rattle.walk.specs.Shapes.{flagOf, flagsOf, valuesOf}
 use Rattle.walk.specs.CellNames.{FSCOD, LFEON, NUMBLKS, AHTINU}
-use Rattle.eac3.specs.Cells.{BSID, ACMOD, STRMTYP, SUBSTREAMID, BLOCK-STARTS, MANTISSA-STARTS, AUDIO-END, AHT-TAGS, SPX-BLOCKS, CPL-BLOCKS}
+use Rattle.annex.specs.Cells.{BSID, ACMOD, STRMTYP, SUBSTREAMID, BLOCK-STARTS, MANTISSA-STARTS, AUDIO-END, AHT-TAGS, SPX-BLOCKS, CPL-BLOCKS}
 use Rattle.eac3.specs.Frame.{eac3}
 use Rattle.eac3.specs.declared.answer.Frame.{Frame}
 use Rattle.eac3.specs.declared.answer.Answer.{Answer}

@@ -11,9 +11,9 @@ use Rattle.walk.specs.Cells.{State, state, cellOf, putIn}
 use Rattle.walk.specs.CellNames.{NUMBLKS, FRMSIZ, NFCHANS, CPLSTRT, CPLEND, ENDMANT}
 use Rattle.walk.specs.Acts.{blkstrtinfoBits}
 use Rattle.walk.specs.Syntax.{Block, meaning}
-use Rattle.eac3.specs.Blocks.{_⧺_}
-use Rattle.eac3.specs.Cells.{CPLSTRE, CPLINUS, SPXINU, CPLENDF-3, NCPLSUBND, CHEXPSTR}
-use Rattle.eac3.specs.Audblk.{cpl-strategy, bandwidth}
+use Rattle.walk.specs.Syntax.{_⧺_}
+use Rattle.annex.specs.Cells.{CPLSTRE, CPLINUS, SPXINU, CPLENDF-3, NCPLSUBND, CHEXPSTR}
+use Rattle.annex.specs.Audblk.{cpl-strategy, bandwidth}
 use Rattle.eac3.specs.Frame.{eac3}
 
 pub record Edge : Type 0 where

@@ -8,7 +8,7 @@ use Rattle.reading.specs.Frame.{TailNames, Format}
 use Rattle.walk.specs.Cells.{State, state, cellOf}
 use Rattle.walk.specs.CellNames.{FRMSIZ}
 use Rattle.walk.specs.Syntax.{meaning}
-use Rattle.eac3.specs.Annex.{header, body}
+use Rattle.annex.specs.Annex.{header, body}
 
 -- nothing is read yet
 unfoldable pub start : State

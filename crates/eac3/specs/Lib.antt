@@ -1,12 +1,3 @@
-pub mod Blocks
-pub mod Cells
-pub mod ActNumbers
-pub mod Syncinfo
-pub mod Bsi
-pub mod Audfrm
-pub mod Audblk
-pub mod Annex
-pub mod Rows
 pub mod Frame
 pub mod Answer
 pub mod Parts

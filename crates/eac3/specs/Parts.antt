@@ -14,8 +14,8 @@ use Rattle.blocks.specs.Memo.{Memo}
 use Rattle.walk.specs.Cells.{State, cellOf}
 use Rattle.walk.specs.CellNames.{FRMSIZ}
 use Rattle.walk.specs.Syntax.{meaning}
-use Rattle.eac3.specs.Annex.{header, body}
-use Rattle.eac3.specs.Rows.{Annexed}
+use Rattle.annex.specs.Annex.{header, body}
+use Rattle.annex.specs.Rows.{Annexed}
 use Rattle.eac3.specs.Frame.{start, tailNames, eac3}
 
 -- an outcome, at the room from the count n on

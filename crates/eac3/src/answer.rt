@@ -2,7 +2,7 @@
 ghost use mathlib.Core.Path.{_≡_};
 ghost use Rattle.walk.specs.Cells.{state};
 ghost use Rattle.eac3.specs.Answer.{nothing, frameOf, answerOf, toldOf};
-use crate::cells as c;
+use annex::cells as c;
 use bits::BitPlace;
 use bits::ByteCount;
 use syntax::Cursor;

@@ -1,7 +1,5 @@
 // The reader of E-AC-3 syncframes (eac3.rs; A/52 Annex E, TS 102 366 Annex E).
-pub mod acts;
 pub mod answer;
-pub mod cells;
 pub mod table;
 
 ghost use mathlib.Core.Path.{_≡_};
@@ -13,7 +11,7 @@ ghost use Rattle.reading.specs.Room.{room};
 ghost use Rattle.syntax.specs.Records.{told};
 ghost use Rattle.walk.specs.Cells.{state, cellOf};
 ghost use Rattle.walk.specs.CellNames.{FRMSIZ as frmsiz};
-ghost use Rattle.eac3.specs.Rows.{Annexed};
+ghost use Rattle.annex.specs.Rows.{Annexed};
 ghost use Rattle.eac3.specs.Frame.{eac3};
 ghost use Rattle.eac3.specs.Answer.{Called};
 ghost use Rattle.eac3.specs.Parts.{placed, followed, Tailed, Bodied, Sized, Fresh, bodyOf, readOf};

@@ -1,20 +1,20 @@
 // The table of Annex E, one row to a line: syncinfo and bsi up to frmsiz, then bsi, audfrm and the blocks.
 // specs/Syncinfo, Bsi, Audfrm and Audblk say what the rows mean.
-use crate::acts as a;
-use crate::cells as c;
-use crate::cells::AT_BLK;
-use crate::cells::AT_BND;
-use crate::cells::AT_CH;
-use crate::cells::BY_BLK;
-use crate::cells::BY_BND;
-use crate::cells::BY_CH;
-use crate::cells::BY_CH_BLK;
-use crate::cells::BY_SEG_SLOT;
-use crate::cells::BY_SLOT;
-use crate::cells::BY_SUB;
-use crate::cells::OF_BLK;
-use crate::cells::OF_CH;
-use crate::cells::OF_POS;
+use annex::acts as a;
+use annex::cells as c;
+use annex::cells::AT_BLK;
+use annex::cells::AT_BND;
+use annex::cells::AT_CH;
+use annex::cells::BY_BLK;
+use annex::cells::BY_BND;
+use annex::cells::BY_CH;
+use annex::cells::BY_CH_BLK;
+use annex::cells::BY_SEG_SLOT;
+use annex::cells::BY_SLOT;
+use annex::cells::BY_SUB;
+use annex::cells::OF_BLK;
+use annex::cells::OF_CH;
+use annex::cells::OF_POS;
 use names::numbers as n;
 use walk::notation::ACT;
 use walk::notation::ADD;

@@ -16,7 +16,7 @@ use Rattle.walk.specs.Rows.{amountOf}
 use Rattle.walk.specs.declared.cells.Addr.{Addr}
 use Rattle.walk.specs.declared.table.Value.{Value}
 use Rattle.walk.specs.declared.table.Value.the-variants.{Here, Let, Less, Plus, Minus}
-use Rattle.eac3.specs.Cells.{BLK, CH, SEG, SPXBEGF, SPXENDF, SPX-END, CPLBEGF, CPLENDF, CPLENDF-3, NCPLSUBND, NSEG, HELDEND}
+use Rattle.annex.specs.Cells.{BLK, CH, SEG, SPXBEGF, SPXENDF, SPX-END, CPLBEGF, CPLENDF, CPLENDF-3, NCPLSUBND, NSEG, HELDEND}
 use Rattle.facts.proofs.Cells.{put-sized, put-zero, put-past, cell-same, cell-other}
 use Rattle.facts.proofs.Counts.{both}
 

@@ -12,8 +12,8 @@ use Rattle.walk.specs.CellNames.{CPLEND, CPLINU, CPLSTRT, ENDMANT, LFEON, NFCHA
 use Rattle.walk.specs.Rows.{holdsOf}
 use Rattle.walk.specs.Syntax.{Block, _⨾_, reject, cell, at}
 use Rattle.walk.specs.declared.table.Cond.{Cond}
-use Rattle.eac3.specs.Audblk.{exponents}
-use Rattle.eac3.specs.Cells.{BLK, CH, CPLHELD, HELDEND, SNROFFSTSTR}
+use Rattle.annex.specs.Audblk.{exponents}
+use Rattle.annex.specs.Cells.{BLK, CH, CPLHELD, HELDEND, SNROFFSTSTR}
 use Rattle.facts.specs.Unmet.{Channels, Coupling, Lfe, Unmet}
 use Rattle.facts.proofs.Cells.{cell-zero, cell-same}
 use Rattle.facts.proofs.Bounds.{bounds, mostIn, most, may, Within, Goes, goes-refl, goes-trans, puts}

@@ -16,9 +16,9 @@ use Rattle.walk.specs.declared.cells.Addr.{Addr}
 use Rattle.walk.specs.declared.table.Cond.the-variants.{Is, Not, Differs, Over}
 use Rattle.walk.specs.declared.table.Value.{Value}
 use Rattle.walk.specs.declared.table.Value.the-variants.{Let}
-use Rattle.eac3.specs.ActNumbers.{ALLOCATE}
-use Rattle.eac3.specs.Blocks.{_⧺_}
-use Rattle.eac3.specs.Cells.{CPLENDF-3}
+use Rattle.annex.specs.ActNumbers.{ALLOCATE}
+use Rattle.walk.specs.Syntax.{_⧺_}
+use Rattle.annex.specs.Cells.{CPLENDF-3}
 use Rattle.facts.specs.Unmet.{Unmet}
 use Rattle.facts.proofs.Cells.{cell-zero, cell-same, cell-other}
 use Rattle.facts.proofs.Bounds.{bounds, mostIn, most, allow, may, upTo, forget, spread, mostOver, valueAt, leastOf, greatestOf, heldLeast, heldMost, most-word, Within, Allowed, Goes, puts, held-range, spreads}

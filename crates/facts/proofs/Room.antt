@@ -20,13 +20,13 @@ use Rattle.walk.specs.Cells.{State, cellOf, kept, partOf}
 use Rattle.walk.specs.CellNames.{FRMSIZ}
 use Rattle.walk.specs.Syntax.{Block, end, _⨾_, item, meaning, none}
 use Rattle.names.specs.Names.{syncword}
-use Rattle.eac3.specs.Cells.{SYNCWORD}
-use Rattle.eac3.specs.Blocks.{_⧺_}
-use Rattle.eac3.specs.Syncinfo.{syncinfo}
-use Rattle.eac3.specs.Bsi.{bsi-head, mixdef3, mixing, info, bsi}
-use Rattle.eac3.specs.Audfrm.{flags, strategies, hybrid, offsets, audfrm}
-use Rattle.eac3.specs.Audblk.{dynamics, spx-strategy, spx-coordinates, cpl-strategy, cpl-coordinates, rematrixing, bandwidth, exponents, parameters, deltas, mantissas-of-block, audblk}
-use Rattle.eac3.specs.Annex.{header, audblks, body}
+use Rattle.annex.specs.Cells.{SYNCWORD}
+use Rattle.walk.specs.Syntax.{_⧺_}
+use Rattle.annex.specs.Syncinfo.{syncinfo}
+use Rattle.annex.specs.Bsi.{bsi-head, mixdef3, mixing, info, bsi}
+use Rattle.annex.specs.Audfrm.{flags, strategies, hybrid, offsets, audfrm}
+use Rattle.annex.specs.Audblk.{dynamics, spx-strategy, spx-coordinates, cpl-strategy, cpl-coordinates, rematrixing, bandwidth, exponents, parameters, deltas, mantissas-of-block, audblk}
+use Rattle.annex.specs.Annex.{header, audblks, body}
 use Rattle.eac3.specs.Frame.{start, tailNames, bytesOf, eac3}
 use Rattle.eac3.specs.Answer.{answered, answerBy, answerOf, numberOf}
 use Rattle.eac3.proofs.Header.{frmsiz-is}

@@ -13,8 +13,8 @@ use Rattle.walk.specs.CellNames.{CPLINU, FIRSTCPLLEAK}
 use Rattle.walk.specs.Syntax.{_⨾_, end, element}
 use Rattle.walk.specs.declared.cells.Addr.{Addr}
 use Rattle.walk.specs.declared.cells.Sum.{Sum}
-use Rattle.eac3.specs.Audblk.{parameters}
-use Rattle.eac3.specs.Cells.{BLK, CPLLEAKE, SNROFFSTE, SNROFFSTSTR}
+use Rattle.annex.specs.Audblk.{parameters}
+use Rattle.annex.specs.Cells.{BLK, CPLLEAKE, SNROFFSTE, SNROFFSTSTR}
 use Rattle.facts.specs.Along.{Has}
 use Rattle.facts.specs.Unmet.{Offsets, Leaks, Unmet}
 use Rattle.facts.proofs.Bounds.{bounds, mostIn, most, may, spread, Within, Goes, goes-refl, goes-trans, puts, spreads}

@@ -13,14 +13,14 @@ use Rattle.walk.specs.Allocating.{freshCells, allocateIn}
 use Rattle.walk.specs.Cells.{State, cellOf, putIn, kept}
 use Rattle.walk.specs.CellNames.{CPLINU, FIRSTCPLLEAK, NUMBLKS}
 use Rattle.walk.specs.Syntax.{Block, meaning}
-use Rattle.eac3.specs.Blocks.{_⧺_}
-use Rattle.eac3.specs.Audblk.{dynamics, spx-strategy, spx-coordinates, cpl-strategy, cpl-coordinates, rematrixing, bandwidth, exponents, parameters, deltas, mantissas-of-block, audblk}
-use Rattle.eac3.specs.Annex.{header, audblks, body}
-use Rattle.eac3.specs.Audfrm.{flags, strategies, hybrid, offsets, audfrm}
-use Rattle.eac3.specs.Bsi.{bsi-head, mixdef3, mixing, info, bsi}
+use Rattle.walk.specs.Syntax.{_⧺_}
+use Rattle.annex.specs.Audblk.{dynamics, spx-strategy, spx-coordinates, cpl-strategy, cpl-coordinates, rematrixing, bandwidth, exponents, parameters, deltas, mantissas-of-block, audblk}
+use Rattle.annex.specs.Annex.{header, audblks, body}
+use Rattle.annex.specs.Audfrm.{flags, strategies, hybrid, offsets, audfrm}
+use Rattle.annex.specs.Bsi.{bsi-head, mixdef3, mixing, info, bsi}
 use Rattle.eac3.specs.Frame.{start, bytesOf}
-use Rattle.eac3.specs.Syncinfo.{syncinfo}
-use Rattle.eac3.specs.Cells.{BLK, SNROFFSTSTR}
+use Rattle.annex.specs.Syncinfo.{syncinfo}
+use Rattle.annex.specs.Cells.{BLK, SNROFFSTSTR}
 use Rattle.facts.specs.Unmet.{Offsets, Ready, Unmet}
 use Rattle.facts.specs.Along.{Along}
 use Rattle.facts.proofs.Cells.{cell-zero, cell-same, cell-none, put-sized}

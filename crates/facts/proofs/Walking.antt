@@ -22,7 +22,7 @@ use Rattle.walk.specs.declared.cells.Sum.{Sum}
 use Rattle.walk.specs.declared.table.Cond.{Cond}
 use Rattle.walk.specs.declared.table.Count.{Count}
 use Rattle.walk.specs.declared.table.Value.{Value}
-use Rattle.eac3.specs.Blocks.{_⧺_}
+use Rattle.walk.specs.Syntax.{_⧺_}
 use Rattle.facts.specs.Along.{Has, Then, Turning, Inside, Along}
 
 -- what holds of a state, a place and the records so far

@@ -8,8 +8,8 @@ use Rattle.reading.specs.Run.{Entry}
 use Rattle.walk.specs.Cells.{State, cellOf}
 use Rattle.walk.specs.CellNames.{CPLEND, CPLINU, CPLSTRT, ENDMANT, LFEON, NFCHANS}
 use Rattle.walk.specs.Syntax.{Item, element, span, scan, when, reject, each, put, act}
-use Rattle.eac3.specs.ActNumbers.{ALLOCATE}
-use Rattle.eac3.specs.Cells.{CPLENDF-3, CPLHELD, HELDEND}
+use Rattle.annex.specs.ActNumbers.{ALLOCATE}
+use Rattle.annex.specs.Cells.{CPLENDF-3, CPLHELD, HELDEND}
 use Rattle.facts.specs.Along.{Has}
 
 -- SNR offsets were sent; and coupling leaks

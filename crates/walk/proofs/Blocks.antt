@@ -8,14 +8,8 @@ use lib.Seq.{drop-drop}
 use Rattle.reading.specs.Tree.{_>>=_}
 use Rattle.reading.proofs.Trees.{bind-assoc}
 use Rattle.walk.specs.Cells.{State}
-use Rattle.walk.specs.Syntax.{Item, Block, element, span, scan, when, reject, each, put, act, end, _⨾_, item, meaning, row, flat, rowsOf, size}
+use Rattle.walk.specs.Syntax.{Item, Block, element, span, scan, when, reject, each, put, act, end, _⨾_, _⧺_, item, meaning, row, flat, rowsOf, size}
 use Rattle.walk.specs.declared.table.Row.{Row}
-
-infixr 20 _⧺_
--- one block before another
-unfoldable pub _⧺_ : Block → Block → Block
-end ⧺ b = b
-(i ⨾ a) ⧺ b = i ⨾ (a ⧺ b)
 
 pub flat-append : (a b : Block) (l : List Row) → flat (a ⧺ b) l ≡ flat a (flat b l)
 unfolding flat _⧺_

@@ -14,13 +14,13 @@ use Rattle.reading.specs.Room.{Room, Out, got, exec}
 use Rattle.walk.specs.Cells.{State, putIn}
 use Rattle.walk.specs.Rows.{holdsOf, rowOf}
 use Rattle.walk.specs.Acts.{actOf}
-use Rattle.walk.specs.Syntax.{Item, Block, element, span, scan, when, reject, each, put, act, end, _⨾_, ended, turns, meaning, row, flat, rowsOf, size}
+use Rattle.walk.specs.Syntax.{Item, Block, element, span, scan, when, reject, each, put, act, end, _⨾_, _⧺_, ended, turns, meaning, row, flat, rowsOf, size}
 use Rattle.walk.specs.Steps.{Move, go, stop, next, Moved, stepOf, io, scanIo}
 use Rattle.walk.specs.Stands.{Stands, narrow, allNarrow, fitting}
 use Rattle.walk.specs.declared.table.Row.{Row}
 use Rattle.walk.specs.declared.table.Row.the-variants.{Element, Span, Scan, When, Refuse, Each, Put, Do}
 use Rattle.walk.specs.declared.steps.Next.the-variants.{Take, Walk, Loop, Derive}
-use Rattle.walk.proofs.Blocks.{_⧺_, flat-append, size-append, meaning-append, drop-flat}
+use Rattle.walk.proofs.Blocks.{flat-append, size-append, meaning-append, drop-flat}
 
 -- the test of the widths, at each row
 pub narrow-at : (t : List ℕ) (pc : ℕ) → pc < length t → allNarrow (map rowOf t) ≡ true → narrow (rowOf (getD t pc 0)) ≡ true

@@ -41,6 +41,12 @@ mutual
     end : Block
     _⨾_ : Item → Block → Block
 
+-- one block after another
+infixr 15 _⧺_
+unfoldable pub _⧺_ : Block → Block → Block
+end ⧺ c = c
+(i ⨾ b) ⧺ c = i ⨾ (b ⧺ c)
+
 -- addresses and indexes, as a syntax writes them: a cell; the cell of an array that a counter picks; in an array of rows of eight, by two counters
 abbrev pub cell : ℕ → Addr
 cell k = addr k 0 0

@@ -5,13 +5,13 @@ use borrow.Author.Needs.{needs}
 use Rattle.walk.specs.Rows.{rowOf, condOf, valueOf, boundOf}
 use Rattle.walk.specs.Syntax.{flat, size}
 use Rattle.walk.specs.Stands.{allNarrow}
-use Rattle.eac3.specs.Blocks.{_⧺_}
-use Rattle.eac3.specs.Syncinfo.{syncinfo}
-use Rattle.eac3.specs.Bsi.{bsi-head, mixdef3, mixing, info, bsi}
-use Rattle.eac3.specs.Audfrm.{flags, strategies, hybrid, offsets, audfrm}
-use Rattle.eac3.specs.Audblk.{dynamics, spx-strategy, spx-coordinates, cpl-strategy, cpl-coordinates, rematrixing, bandwidth, exponents, parameters, deltas, mantissas-of-block, audblk}
-use Rattle.eac3.specs.Annex.{header, audblks, body}
-use Rattle.eac3.specs.Rows.{Annexed}
+use Rattle.walk.specs.Syntax.{_⧺_}
+use Rattle.annex.specs.Syncinfo.{syncinfo}
+use Rattle.annex.specs.Bsi.{bsi-head, mixdef3, mixing, info, bsi}
+use Rattle.annex.specs.Audfrm.{flags, strategies, hybrid, offsets, audfrm}
+use Rattle.annex.specs.Audblk.{dynamics, spx-strategy, spx-coordinates, cpl-strategy, cpl-coordinates, rematrixing, bandwidth, exponents, parameters, deltas, mantissas-of-block, audblk}
+use Rattle.annex.specs.Annex.{header, audblks, body}
+use Rattle.annex.specs.Rows.{Annexed}
 use Rattle.eac3.proofs.annex.Statement.{statement}
 use Rattle.eac3.proofs.annex.Tie as tie
 use Rattle.eac3.proofs.annex.Reads as reads

@@ -1,6 +1,6 @@
 use Rattle.eac3.proofs.Parts.{follows}
 use mathlib.Core.Path.{_∙_}
-use Rattle.eac3.specs.Annex.{body}
+use Rattle.annex.specs.Annex.{body}
 use Rattle.eac3.specs.Parts.{bodyOf}
 use borrow.Author.Needs.{needs}
 use Rattle.eac3.proofs.bodied.Statement.{statement}

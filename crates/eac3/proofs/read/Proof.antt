@@ -2,7 +2,7 @@ use Rattle.eac3.proofs.Parts.{held-start, small-size, begins}
 use native.Mathlib.Omega.{arith}
 use mathlib.Core.Path.{refl, sym, subst, _∙_}
 use Rattle.blocks.specs.Held.{Held}
-use Rattle.eac3.specs.Annex.{header}
+use Rattle.annex.specs.Annex.{header}
 use borrow.Author.Needs.{needs}
 use Rattle.eac3.proofs.read.Statement.{statement}
 use Rattle.eac3.proofs.read.Tie as tie

@@ -4,7 +4,7 @@ use Rattle.walk.specs.Syntax.{Block, end, _⨾_, element, reject, put, cell, no
 use Rattle.walk.specs.CellNames.{FRMSIZ}
 use Rattle.walk.specs.declared.table.Cond.the-variants.{Is, Differs}
 use Rattle.walk.specs.declared.table.Value.the-variants.{Let}
-use Rattle.eac3.specs.Cells.{STRMTYP, SUBSTREAMID, SYNC, SYNCHIGH, SYNCWORD}
+use Rattle.annex.specs.Cells.{STRMTYP, SUBSTREAMID, SYNC, SYNCHIGH, SYNCWORD}
 
 -- E.1.2.1 syncinfo; E.1.2.2 bsi: strmtyp, substreamid, frmsiz. The sync word is 0x0B77. strmtyp 3 is reserved.
 unfoldable pub syncinfo : Block

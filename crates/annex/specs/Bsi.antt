@@ -5,8 +5,8 @@ use Rattle.walk.specs.CellNames.{FSCOD, LFEON, NFCHANS, NUMBLKS, WIDTH}
 use Rattle.walk.specs.declared.table.Cond.the-variants.{Is, Not, Above, Below, Odd, Over}
 use Rattle.walk.specs.declared.table.Count.the-variants.{Held}
 use Rattle.walk.specs.declared.table.Value.the-variants.{Here, Let, Minus}
-use Rattle.eac3.specs.Cells.{ACMOD, ADDBSIE, ADDBSIL, ADDCHE, ADDSPCHDAT1E, ADDSPCHDATE, AUDPRODI2E, AUDPRODIE, BLK, BLKID, BLKMIXCFGINFOE, BSID, CHANMAPE, COMPR2E, COMPRE, EXTPGMSCLE, FRMMIXCFGINFOE, INFOMDATE, LFEMIXLEVCODE, MIXDATA2E, MIXDATA3E, MIXDEF, MIXDEFLEN, MIXMDATE, MIXSTART, MIXUSED, NUMBLKSCOD, PANINFO2E, PANINFOE, PGMSCL2E, PGMSCLE, SCALE-EXISTS, STRMTYP}
-use Rattle.eac3.specs.Blocks.{_⧺_}
+use Rattle.annex.specs.Cells.{ACMOD, ADDBSIE, ADDBSIL, ADDCHE, ADDSPCHDAT1E, ADDSPCHDATE, AUDPRODI2E, AUDPRODIE, BLK, BLKID, BLKMIXCFGINFOE, BSID, CHANMAPE, COMPR2E, COMPRE, EXTPGMSCLE, FRMMIXCFGINFOE, INFOMDATE, LFEMIXLEVCODE, MIXDATA2E, MIXDATA3E, MIXDEF, MIXDEFLEN, MIXMDATE, MIXSTART, MIXUSED, NUMBLKSCOD, PANINFO2E, PANINFOE, PGMSCL2E, PGMSCLE, SCALE-EXISTS, STRMTYP}
+use Rattle.walk.specs.Syntax.{_⧺_}
 
 -- up to the channel map. numblks is 1, 2, 3 or 6; nfchans by acmod (Table 5.8 of A/52, Table 4.3 of TS 102 366)
 unfoldable pub bsi-head : Block

@@ -2,7 +2,7 @@
 use mathlib.Core.List.{List}
 use Prim.Native.Nat.{ℕ}
 use Rattle.walk.specs.Stands.{Stands, Table}
-use Rattle.eac3.specs.Annex.{header, body}
+use Rattle.annex.specs.Annex.{header, body}
 
 pub record Annexed (t : List ℕ) : Type 0 where
   pub headed : Stands t header 0 8

@@ -4,12 +4,12 @@ use Rattle.walk.specs.CellNames.{BLOCK, NUMBLKS}
 use Rattle.walk.specs.declared.table.Cond.the-variants.{Over}
 use Rattle.walk.specs.declared.table.Count.the-variants.{Fixed}
 use Rattle.walk.specs.declared.table.Value.the-variants.{Here, Let}
-use Rattle.eac3.specs.Blocks.{_⧺_}
-use Rattle.eac3.specs.Cells.{BLK, AUDIO-END}
-use Rattle.eac3.specs.Syncinfo.{syncinfo}
-use Rattle.eac3.specs.Bsi.{bsi}
-use Rattle.eac3.specs.Audfrm.{audfrm}
-use Rattle.eac3.specs.Audblk.{audblk}
+use Rattle.walk.specs.Syntax.{_⧺_}
+use Rattle.annex.specs.Cells.{BLK, AUDIO-END}
+use Rattle.annex.specs.Syncinfo.{syncinfo}
+use Rattle.annex.specs.Bsi.{bsi}
+use Rattle.annex.specs.Audfrm.{audfrm}
+use Rattle.annex.specs.Audblk.{audblk}
 
 unfoldable pub header : Block
 header = syncinfo

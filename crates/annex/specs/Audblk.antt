@@ -3,12 +3,12 @@ use Prim.Native.Nat.{_+_}
 use Rattle.names.specs.Names.{baie, blkfsnroffst, blksw, chbwcod, chincpl, chinspx, convsnroffst, convsnroffste, cplabsexp, cplbegf, cplbndstrc, cplbndstrce, cplcoe, cplcoexp, cplcomant, cpldeltba, cpldeltbae, cpldeltlen, cpldeltnseg, cpldeltoffst, cplendf, cplexps, cplfgaincod, cplfleak, cplfsnroffst, cplleake, cplsleak, csnroffst, dbpbcod, deltba, deltbae, deltbaie, deltlen, deltnseg, deltoffst, dithflag, dynrng, dynrng2, dynrng2e, dynrnge, ecplinu, exps-ch, exps-ch-0, fdcycod, fgaincod, fgaincode, floorcod, fsnroffst, gainrng, lfeexps, lfeexps-0, lfefgaincod, lfefsnroffst, mantissas, mstrcplco, mstrspxco, phsflg, phsflginu, rematflg, rematstr, sdcycod, sgaincod, skipfld, skipl, skiple, snroffste, spxbegf, spxblnd, spxbndstrc, spxbndstrce, spxcoe, spxcoexp, spxcomant, spxendf, spxinu, spxstre, spxstrtf}
 use Rattle.walk.specs.Syntax.{Block, end, _⨾_, element, span, scan, when, reject, each, put, act, cell, at, at2, no, none, nth, by, from, held+}
 use Rattle.walk.specs.CellNames.{ABSEXP, AHT_READ as AHT-READ, AHTINU, BAI_SENT as BAI-SENT, BLOCK, CHINCPL, CPLBNDSTRC, CPLEND, CPLFLEAK, CPLINU, CPLSLEAK, CPLSTRT, CSNROFFST, DBPBCOD, DELTBA, DELTBAE, DELTLEN, DELTNSEG, DELTOFFST, ENDBIN, ENDMANT, FDCYCOD, FGAINCOD, FIRSTCPLCOS, FIRSTCPLLEAK, FIRSTSPXCOS, FLOORCOD, FSNROFFST, GROUP, GROUPS, LFEON, NFCHANS, SDCYCOD, SGAINCOD, SLOT, SPXBNDSTRC, STRATEGY, STRTBIN, WIDTH}
-use Rattle.eac3.specs.ActNumbers.{ALLOCATE, DELTA-CODE, EXP-BEGIN, EXP-GROUP}
+use Rattle.annex.specs.ActNumbers.{ALLOCATE, DELTA-CODE, EXP-BEGIN, EXP-GROUP}
 use Rattle.walk.specs.declared.table.Cond.the-variants.{Is, Not, Above, Below, Differs, AtLeast}
 use Rattle.walk.specs.declared.table.Count.the-variants.{Fixed, Held}
 use Rattle.walk.specs.declared.table.Value.the-variants.{Here, Let, Less, Plus, Minus}
-use Rattle.eac3.specs.Cells.{ACMOD, AHT-TAGS, BAIE, BAMODE, BLK, BLKFSNROFFST, BLKSWE, BLOCK-STARTS, BND, CH, CHBWCOD, CHBWSENT, CHEXPSTR, CHINSPX, CONVSNROFFSTE, CPL-BLOCKS, CPLBEGF, CPLBNDSTRCE, CPLCOE, CPLENDF, CPLENDF-3, CPLEXPSTR, CPLHELD, CPLINUS, CPLLEAKE, CPLSTRE, DBAFLDE, DELTBAIE, DITHFLAGE, DYNRNG2E, DYNRNGE, ECPLINU, FGAINCODE, FREE, FRMFGAINCODE, GRP, HELDEND, LFEEXPSTR, MANTISSA-STARTS, NCPLBND, NCPLSUBND, NREMATBD, NSEG, NSPXBNDS, PHSFLGE, PHSFLGINU, POS, REMATSTR, SEG, SKIPFLDE, SKIPL, SKIPLE, SNROFFSTE, SNROFFSTSTR, SPX-BEGIN, SPX-BLOCKS, SPX-END, SPXBEGF, SPXBNDSTRCE, SPXCOE, SPXENDF, SPXINU, SPXSTRE, STRMTYP, SUB, TAGS}
-use Rattle.eac3.specs.Blocks.{_⧺_}
+use Rattle.annex.specs.Cells.{ACMOD, AHT-TAGS, BAIE, BAMODE, BLK, BLKFSNROFFST, BLKSWE, BLOCK-STARTS, BND, CH, CHBWCOD, CHBWSENT, CHEXPSTR, CHINSPX, CONVSNROFFSTE, CPL-BLOCKS, CPLBEGF, CPLBNDSTRCE, CPLCOE, CPLENDF, CPLENDF-3, CPLEXPSTR, CPLHELD, CPLINUS, CPLLEAKE, CPLSTRE, DBAFLDE, DELTBAIE, DITHFLAGE, DYNRNG2E, DYNRNGE, ECPLINU, FGAINCODE, FREE, FRMFGAINCODE, GRP, HELDEND, LFEEXPSTR, MANTISSA-STARTS, NCPLBND, NCPLSUBND, NREMATBD, NSEG, NSPXBNDS, PHSFLGE, PHSFLGINU, POS, REMATSTR, SEG, SKIPFLDE, SKIPL, SKIPLE, SNROFFSTE, SNROFFSTSTR, SPX-BEGIN, SPX-BLOCKS, SPX-END, SPXBEGF, SPXBNDSTRCE, SPXCOE, SPXENDF, SPXINU, SPXSTRE, STRMTYP, SUB, TAGS}
+use Rattle.walk.specs.Syntax.{_⧺_}
 
 -- block switch, dither and dynamic range control
 unfoldable pub dynamics : Block

@@ -3,12 +3,12 @@ use Prim.Native.Nat.{_+_, _-_}
 use Rattle.names.specs.Names.{ahte, bamode, blkstrtinfo, blkstrtinfoe, blkswe, chahtinu, chexpstr, chinspxatten, chintransproc, convexpstr, convexpstre, cplahtinu, cplexpstr, cplinu, cplstre, dbaflde, dithflage, expstre, frmchexpstr, frmcplexpstr, frmcsnroffst, frmfgaincode, frmfsnroffst, lfeahtinu, lfeexpstr, skipflde, snroffststr, spxattencod, spxattene, transproce, transproclen, transprocloc}
 use Rattle.walk.specs.Syntax.{Block, end, _⨾_, element, span, when, reject, each, put, act, cell, at, at2, no, none, nth, by, from}
 use Rattle.walk.specs.CellNames.{AHTINU, CSNROFFST, EXPSTR, FRMEXPSTR, FSNROFFST, LFEON, NFCHANS, NUMBLKS, SLOT, WIDTH}
-use Rattle.eac3.specs.ActNumbers.{BLKSTRTINFO, FRAME-EXPSTR, FRESH}
+use Rattle.annex.specs.ActNumbers.{BLKSTRTINFO, FRAME-EXPSTR, FRESH}
 use Rattle.walk.specs.declared.table.Cond.the-variants.{Is, Not, Above}
 use Rattle.walk.specs.declared.table.Count.the-variants.{Fixed, Held}
 use Rattle.walk.specs.declared.table.Value.the-variants.{Let}
-use Rattle.eac3.specs.Cells.{ACMOD, AHTE, BAMODE, BLK, BLKSTRTINFOE, BLKSWE, CH, CHEXPSTR, CHINSPXATTEN, CHINTRANSPROC, CONVEXPSTRE, CPLEXPSTR, CPLINUS, CPLSTRE, DBAFLDE, DITHFLAGE, EXPSTRE, FRMFGAINCODE, FRMFSNROFFST, LFEEXPSTR, NCHREGS, NCPLBLKS, NCPLREGS, NLFEREGS, NUMBLKSCOD, SKIPFLDE, SNROFFSTSTR, SPXATTENE, STRMTYP, TRANSPROCE}
-use Rattle.eac3.specs.Blocks.{_⧺_}
+use Rattle.annex.specs.Cells.{ACMOD, AHTE, BAMODE, BLK, BLKSTRTINFOE, BLKSWE, CH, CHEXPSTR, CHINSPXATTEN, CHINTRANSPROC, CONVEXPSTRE, CPLEXPSTR, CPLINUS, CPLSTRE, DBAFLDE, DITHFLAGE, EXPSTRE, FRMFGAINCODE, FRMFSNROFFST, LFEEXPSTR, NCHREGS, NCPLBLKS, NCPLREGS, NLFEREGS, NUMBLKSCOD, SKIPFLDE, SNROFFSTSTR, SPXATTENE, STRMTYP, TRANSPROCE}
+use Rattle.walk.specs.Syntax.{_⧺_}
 
 -- the flags of the frame, and the use of coupling block by block. ncplblks: E.2.4.2
 unfoldable pub flags : Block
