@@ -8,9 +8,9 @@ use Rattle.walk.specs.declared.table.Value.the-variants.{Here, Let, Minus}
 use Rattle.annex.specs.Cells.{ACMOD, ADDBSIE, ADDBSIL, ADDCHE, ADDSPCHDAT1E, ADDSPCHDATE, AUDPRODI2E, AUDPRODIE, BLK, BLKID, BLKMIXCFGINFOE, BSID, CHANMAPE, COMPR2E, COMPRE, EXTPGMSCLE, FRMMIXCFGINFOE, INFOMDATE, LFEMIXLEVCODE, MIXDATA2E, MIXDATA3E, MIXDEF, MIXDEFLEN, MIXMDATE, MIXSTART, MIXUSED, NUMBLKSCOD, PANINFO2E, PANINFOE, PGMSCL2E, PGMSCLE, SCALE-EXISTS, STRMTYP}
 use Rattle.walk.specs.Syntax.{_⧺_}
 
--- up to the channel map. numblks is 1, 2, 3 or 6; nfchans by acmod (Table 5.8 of A/52, Table 4.3 of TS 102 366)
-unfoldable pub bsi-head : Block
-bsi-head =
+-- sample rate, blocks and channels. numblks is 1, 2, 3 or 6; nfchans by acmod (Table 5.8 of A/52, Table 4.3 of TS 102 366)
+unfoldable pub rates : Block
+rates =
     element fscod none 2 (cell FSCOD)
     ⨾ reject (Is (cell FSCOD) 3) 5
     ⨾ element numblkscod none 2 (cell NUMBLKSCOD)
@@ -39,7 +39,12 @@ bsi-head =
     (put (cell NFCHANS) (Let 5 0 no)
     ⨾ end)
     ⨾ element lfeon none 1 (cell LFEON)
-    ⨾ element bsid none 5 (cell BSID)
+    ⨾ end
+
+-- bsid is 11 to 16. The loudness words of the programme
+unfoldable pub loudness : Block
+loudness =
+    element bsid none 5 (cell BSID)
     ⨾ reject (Below (cell BSID) 11) 6
     ⨾ reject (Above (cell BSID) 16) 6
     ⨾ element dialnorm none 5 no
@@ -47,20 +52,33 @@ bsi-head =
     ⨾ when (Is (cell COMPRE) 1)
     (element compr none 8 no
     ⨾ end)
-    ⨾ when (Is (cell ACMOD) 0)
+    ⨾ end
+
+-- those of the second programme of two
+unfoldable pub loudness2 : Block
+loudness2 =
+    when (Is (cell ACMOD) 0)
     (element dialnorm2 none 5 no
     ⨾ element compr2e none 1 (cell COMPR2E)
     ⨾ when (Is (cell COMPR2E) 1)
     (element compr2 none 8 no
     ⨾ end)
     ⨾ end)
-    ⨾ when (Is (cell STRMTYP) 1)
+    ⨾ end
+
+-- the channel map of a dependent substream
+unfoldable pub channels : Block
+channels =
+    when (Is (cell STRMTYP) 1)
     (element chanmape none 1 (cell CHANMAPE)
     ⨾ when (Is (cell CHANMAPE) 1)
     (element chanmap none 16 no
     ⨾ end)
     ⨾ end)
     ⨾ end
+
+unfoldable pub bsi-head : Block
+bsi-head = rates ⧺ loudness ⧺ loudness2 ⧺ channels
 
 -- mixdef 3: 8 (mixdeflen + 2) bits in all; what is left of them is kept as one span
 unfoldable pub mixdef3 : Block

@@ -1,10 +1,12 @@
 -- Blocks of a page in code, one after another. Assumes nothing.
 use mathlib.Core.Bool.{Bool, true, false, cond}
-use mathlib.Core.List.{List}
-use mathlib.Core.Path.{_≡_, refl, sym, ap, _∙_}
-use Prim.Native.Nat.{ℕ, _+_, _*_}
+use mathlib.Core.List.{List, map}
+use mathlib.Core.Path.{_≡_, refl, sym, ap, subst, _∙_}
+use Prim.Native.Nat.{ℕ, _+_, _*_, _≤_}
 use native.Mathlib.Omega.{arith}
 use lib.Dec.{eqb}
+use lib.ListN.{length, drop, length-map}
+use borrow.Author.Tests.{eqb-true, eq-eqb, ne-eqb}
 use Rattle.reading.specs.Tree.{Tree, done, refuse, _>>=_}
 use Rattle.reading.specs.Run.{accepted, refused}
 use Rattle.reading.specs.Room.{Room, Out, got, exec}
@@ -16,16 +18,22 @@ use Rattle.blocks.specs.Held.{Held}
 use Rattle.blocks.specs.Memo.{Memo}
 use Rattle.walk.specs.Cells.{State, state, cellOf, putIn, placeOf, heldOf, sumOf, kept}
 use Rattle.walk.specs.Rows.{holdsOf, amountOf}
-use Rattle.walk.specs.Syntax.{Block, element, when, reject, put, end, _⨾_, _⧺_, item, meaning, cell, no, none}
+use Rattle.walk.specs.Syntax.{Item, Block, element, span, scan, when, reject, each, put, act, end, _⨾_, _⧺_, item, meaning, ended, row, flat, rowsOf, size, cell, no, none}
 use Rattle.walk.specs.Steps.{Took, asked, io}
 use Rattle.walk.specs.declared.cells.Addr.{Addr}
 use Rattle.walk.specs.declared.cells.Sum.{Sum}
 use Rattle.walk.specs.declared.table.Cond.{Cond}
-use Rattle.walk.specs.declared.table.Value.{Value}
+use Rattle.walk.specs.declared.table.Row.{Row}
 use Rattle.walk.specs.declared.table.Value.the-variants.{Let}
 use Rattle.walk.specs.declared.steps.Ask.{Ask}
-use Rattle.walk.proofs.Blocks.{meaning-append}
-use Rattle.page.specs.Page.{after, askOf, Reads, Runs, Calms, Elements, Optional, Rejects, Sets}
+use Rattle.walk.specs.Rows.{rowOf}
+use Rattle.walk.specs.Acts.{actOf}
+use Rattle.walk.specs.Cells.{Acted, acted}
+use Rattle.walk.specs.Stands.{Stands, Ran}
+use Rattle.walk.proofs.ExpActs.{act-held}
+use Rattle.walk.proofs.Blocks.{meaning-append, flat-append, size-append, drop-row, drop-flat}
+use lib.Seq.{drop-drop}
+use Rattle.page.specs.Page.{after, askOf, Reads, Runs, Calms, Elements, Optional, Rejects, Sets, Guarded, Derives}
 
 -- a cell by its number alone
 pub place-cell : (k : ℕ) (m : List ℕ) → k ≡ placeOf (cell k) m
@@ -96,6 +104,10 @@ put-calms k v m m′ e = record {
   is = λ bins s l p n z. let w : v + 0 * heldOf no m ≡ v = omega arith in rw (e, ← place-cell k m, w) refl;
 }
 
+pub linear-calms : (k x y j : ℕ) (m m′ : List ℕ) (v : ℕ) → v ≡ x + y * cellOf m j → m′ ≡ putIn m k v → Calms (put (cell k) (Let x y (cell j)) ⨾ end) m m′
+unfolding exec meaning _>>=_
+linear-calms k x y j m m′ v ev e = record { is = λ bins s l p n z. rw (e, ev, ← place-cell k m, ← held-cell j m) refl }
+
 pub when-put : (on : Bool) (k v : ℕ) (m m′ : List ℕ) → m′ ≡ cond on (putIn m k v) m → Sets on k v m m′
 unfolding exec meaning _>>=_
 when-put true k v m m′ e = record { is = λ q h. record { is = λ bins s l p n z. let w : v + 0 * heldOf no m ≡ v = omega arith in rw (e, ← h, ← place-cell k m, w) refl } }
@@ -149,17 +161,87 @@ module _ (s : List ℕ) (l name w k : ℕ) (c : Cursor) (m : List ℕ) (z : Room
 
 -- a refusal, if a condition holds
 module _ (number : ℕ) (c : Cursor) where
-  pub rejects-stopped : (yes : Bool) → c .stopped ≡ true → Rejects yes number c c
-  rejects-stopped yes h = record { is = λ q m e s l z. record { is = λ bins. after-stopped s l (reject q number ⨾ end) c (state m bins) z h } }
+  pub rejects-stopped : (test : Bool) → c .stopped ≡ true → Rejects test number c c
+  rejects-stopped test h = record { is = λ q m e s l z. record { is = λ bins. after-stopped s l (reject q number ⨾ end) c (state m bins) z h } }
 
-  pub rejects-yes : (yes : Bool) → c .stopped ≡ false → yes ≡ true → (c′ : Cursor) → c′ ≡ haltedAt (c .at .0) (c .count) number → Rejects yes number c c′
+  pub rejects-on : (test : Bool) → c .stopped ≡ false → test ≡ true → (c′ : Cursor) → c′ ≡ haltedAt (c .at .0) (c .count) number → Rejects test number c c′
   unfolding exec meaning _>>=_
-  rejects-yes yes h y c′ ec = record {
+  rejects-on test h y c′ ec = record {
     is = λ q m e s l z. record { is = λ bins. after-live s l (reject q number ⨾ end) c (state m bins) z _ h (let t : holdsOf q m ≡ true = sym e ∙ y in rw (ec, t) refl) };
   }
 
-  pub rejects-no : (yes : Bool) → c .stopped ≡ false → yes ≡ false → Rejects yes number c c
+  pub rejects-off : (test : Bool) → c .stopped ≡ false → test ≡ false → Rejects test number c c
   unfolding exec meaning _>>=_
-  rejects-no yes h y = record {
+  rejects-off test h y = record {
     is = λ q m e s l z. record { is = λ bins. after-live s l (reject q number ⨾ end) c (state m bins) z _ h (let t : holdsOf q m ≡ false = sym e ∙ y in rw (h, t) refl) };
   }
+
+-- a derivation
+module _ (k : ℕ) (c : Cursor) (st : State) where
+  pub derive-stopped : (mem : List ℕ) → c .stopped ≡ true → Held (st .bins) → Memo mem (st .bins) → Derives k c st c st mem
+  derive-stopped mem h hh hr = record { is = λ s l z. record { is = after-stopped s l (act k 0 ⨾ end) c st z h; held = hh; right = hr } }
+
+  module _ (h : c .stopped ≡ false) (hh : Held (st .bins)) (n : ℕ) (su : State) (memu : List ℕ) (acts : (acted n su ≡ actOf k 0 st) × Memo memu (su .bins)) where
+    acts-held : Held (su .bins)
+    acts-held = subst (λ (a : Acted). Held (a .st .bins)) (sym (acts .0)) (act-held k 0 st hh)
+
+    pub derive-on : n ≡ 0 → Derives k c st c su memu
+    unfolding exec meaning _>>=_
+    derive-on e = record { is = λ s l z. record { is = after-live s l (act k 0 ⨾ end) c st z _ h (rw (h, ← acts .0, e) refl); held = acts-held; right = acts .1 } }
+
+    pub derive-off : ¬ (n ≡ 0) → (c′ : Cursor) → c′ ≡ haltedAt (c .at .0) (c .count) n → Derives k c st c′ su memu
+    unfolding exec meaning _>>=_
+    derive-off ne c′ ec = record {
+      is = λ s l z. record { is = after-live s l (act k 0 ⨾ end) c st z _ h (rw (ec, ← acts .0, ne-eqb n 0 ne) refl); held = acts-held; right = acts .1 };
+    }
+
+-- rows, if a condition holds
+module _ (s : List ℕ) (l : ℕ) (t : List ℕ) (on : Bool) (from to : ℕ) (c : Cursor) (st : State) (z : Room) (mem : List ℕ) (hh : Held (st .bins)) (hr : Memo mem (st .bins)) where
+  pub guarded-stopped : c .stopped ≡ true → Guarded s l t on from to c st z c st z mem
+  guarded-stopped h = record { is = λ b k q e. record { is = after-stopped s l (when q b ⨾ end) c st z h; held = hh; right = hr } }
+
+  pub guarded-off : on ≡ false → Guarded s l t on from to c st z c st z mem
+  guarded-off h = record { is = λ b k q e. record { is = when-off s l b q c st z (sym e ∙ h); held = hh; right = hr } }
+
+pub guarded-on : (s : List ℕ) (l : ℕ) (t : List ℕ) (on : Bool) (from to : ℕ) (c : Cursor) (st : State) (z : Room) → c .stopped ≡ false → on ≡ true
+    → (c′ : Cursor) (st′ : State) (z′ : Room) (mem′ : List ℕ) → Ran s l t from to c st z c′ st′ z′ mem′ → Guarded s l t on from to c st z c′ st′ z′ mem′
+guarded-on s l t on from to c st z h ho c′ st′ z′ mem′ r = record {
+  is = λ b k q e. record { is = after-live s l b c st z _ h (r .runs b k) ∙ when-on s l b q c st z (sym e ∙ ho); held = r .held; right = r .right };
+}
+
+-- where the parts of a block stand
+module _ (t : List ℕ) where
+  past : (n j : ℕ) (l r : List Row) → drop j (map rowOf t) ≡ l → drop n l ≡ r → drop (j + n) (map rowOf t) ≡ r
+  past n j l r e f = sym (drop-drop n j (map rowOf t)) ∙ ap (drop n) e ∙ f
+
+  pub stands-first : (a b : Block) (from to : ℕ) → Stands t (a ⧺ b) from to → Stands t a from (from + size a)
+  stands-first a b from to h = record {
+    rows = h .rows ∙ flat-append a b _ ∙ ap (flat a) (sym (past (size a) from _ _ (h .rows ∙ flat-append a b _) (drop-flat a _)));
+    ends = refl;
+    room = omega (arith, h .room, h .ends, size-append a b);
+  }
+
+  pub stands-rest : (a b : Block) (from to : ℕ) → Stands t (a ⧺ b) from to → Stands t b (from + size a) to
+  stands-rest a b from to h = record {
+    rows = past (size a) from _ _ (h .rows ∙ flat-append a b _) (drop-flat a _);
+    ends = omega (arith, h .ends, size-append a b);
+    room = h .room;
+  }
+
+  pub stands-next : (i : Item) (b : Block) (from to : ℕ) → Stands t (i ⨾ b) from to → Stands t b (from + rowsOf i) to
+  unfolding flat
+  stands-next i b from to h = record {
+    rows = past (rowsOf i) from _ _ (h .rows) (drop-row i _);
+    ends = omega (arith, h .ends);
+    room = h .room;
+  }
+
+  pub stands-guarded : (q : Cond) (a b : Block) (from to : ℕ) → Stands t (when q a ⨾ b) from to → Stands t a (from + 1) (from + 1 + size a)
+  unfolding flat
+  stands-guarded q a b from to h =
+      let e : drop (from + 1) (map rowOf t) ≡ flat a (flat b (drop to (map rowOf t))) = past 1 from _ _ (h .rows) refl in
+      record {
+        rows = e ∙ ap (flat a) (sym (past (size a) (from + 1) _ _ e (drop-flat a _)));
+        ends = refl;
+        room = omega (arith, h .room, h .ends);
+      }

@@ -2,16 +2,18 @@
 use mathlib.Core.Bool.{Bool, cond}
 use mathlib.Core.List.{List}
 use mathlib.Core.Path.{_≡_}
-use Prim.Native.Nat.{ℕ}
+use Prim.Native.Nat.{ℕ, _*_, _≤_}
+use lib.ListN.{length}
 use Rattle.reading.specs.Run.{accepted}
 use Rattle.reading.specs.Room.{Room, Out, got, exec}
 use Rattle.syntax.specs.Records.{told}
 use Rattle.syntax.specs.declared.Cursor.{Cursor}
 use Rattle.blocks.specs.Held.{Held}
 use Rattle.blocks.specs.Memo.{Memo}
+use Rattle.walk.specs.Stands.{Stands, Table}
 use Rattle.walk.specs.Cells.{State, state, placeOf, sumOf}
 use Rattle.walk.specs.Rows.{holdsOf}
-use Rattle.walk.specs.Syntax.{Block, element, when, reject, put, end, _⨾_, meaning, cell, no, none}
+use Rattle.walk.specs.Syntax.{Block, element, when, reject, put, act, end, _⨾_, meaning, cell, no, none}
 use Rattle.walk.specs.declared.cells.Addr.{Addr}
 use Rattle.walk.specs.declared.cells.Sum.{Sum}
 use Rattle.walk.specs.declared.table.Cond.{Cond}
@@ -50,9 +52,30 @@ pub record Optional (s : List ℕ) (l : ℕ) (on : Bool) (name w k : ℕ) (c : C
   pub is : (q : Cond) → on ≡ holdsOf q m → Reads s l (when q (element name none w (cell k) ⨾ end) ⨾ end) c m z c′ m′ z′
 
 -- a refusal, if a condition holds
-pub record Rejects (yes : Bool) (number : ℕ) (c c′ : Cursor) : Type 0 where
-  pub is : (q : Cond) (m : List ℕ) → yes ≡ holdsOf q m → (s : List ℕ) (l : ℕ) (z : Room) → Reads s l (reject q number ⨾ end) c m z c′ m z
+pub record Rejects (test : Bool) (number : ℕ) (c c′ : Cursor) : Type 0 where
+  pub is : (q : Cond) (m : List ℕ) → test ≡ holdsOf q m → (s : List ℕ) (l : ℕ) (z : Room) → Reads s l (reject q number ⨾ end) c m z c′ m z
 
 -- a number put into a cell, if a condition holds
 pub record Sets (on : Bool) (k v : ℕ) (m m′ : List ℕ) : Type 0 where
   pub is : (q : Cond) → on ≡ holdsOf q m → Calms (when q (put (cell k) (Let v 0 no) ⨾ end) ⨾ end) m m′
+
+-- the rows of a block stand in a table, the frame ends within the data, no exponent is too large, and what is kept of allocations is right
+pub record Page (s : List ℕ) (l : ℕ) (t bins mem : List ℕ) (b : Block) (from to : ℕ) : Type 0 where
+  pub stands : Stands t b from to
+  pub table : Table t
+  pub within : l ≤ 8 * length s
+  pub held : Held bins
+  pub right : Memo mem bins
+
+-- some block does
+pub record Paged (s : List ℕ) (l : ℕ) (t bins mem : List ℕ) (from to : ℕ) : Type 0 where
+  pub what : Block
+  pub page : Page s l t bins mem what from to
+
+-- the block that stands there is run, if a condition holds
+pub record Guarded (s : List ℕ) (l : ℕ) (t : List ℕ) (on : Bool) (from to : ℕ) (c : Cursor) (st : State) (z : Room) (c′ : Cursor) (st′ : State) (z′ : Room) (mem′ : List ℕ) : Type 0 where
+  pub is : (b : Block) → Stands t b from to → (q : Cond) → on ≡ holdsOf q (st .cells) → Runs s l (when q b ⨾ end) c st z c′ st′ z′ mem′
+
+-- a derivation
+pub record Derives (k : ℕ) (c : Cursor) (st : State) (c′ : Cursor) (st′ : State) (mem′ : List ℕ) : Type 0 where
+  pub is : (s : List ℕ) (l : ℕ) (z : Room) → Runs s l (act k 0 ⨾ end) c st z c′ st′ z mem′

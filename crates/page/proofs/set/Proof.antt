@@ -1,0 +1,16 @@
+use Rattle.page.proofs.Pages.{put-calms}
+use borrow.Author.Needs.{needs}
+use Rattle.page.proofs.set.Statement.{statement}
+use Rattle.page.proofs.set.Tie as tie
+use Rattle.page.proofs.set.Reads as reads
+use Rattle.page.proofs.set.Lts as lts
+use Rattle.walk.proofs.cells.put.Reads as put-reads
+
+put-requires : tie.Need-put-requires
+put-requires c κs = search needs
+
+returns : tie.Need-returns
+returns c = put-calms _ _ _ _ (c .put .ensures)
+
+pub set-spec : {M : Type 1} → statement M
+set-spec = tie.close (tie.spec put-requires returns)
