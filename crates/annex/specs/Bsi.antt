@@ -8,13 +8,10 @@ use Rattle.walk.specs.declared.table.Value.the-variants.{Here, Let, Minus}
 use Rattle.annex.specs.Cells.{ACMOD, ADDBSIE, ADDBSIL, ADDCHE, ADDSPCHDAT1E, ADDSPCHDATE, AUDPRODI2E, AUDPRODIE, BLK, BLKID, BLKMIXCFGINFOE, BSID, CHANMAPE, COMPR2E, COMPRE, EXTPGMSCLE, FRMMIXCFGINFOE, INFOMDATE, LFEMIXLEVCODE, MIXDATA2E, MIXDATA3E, MIXDEF, MIXDEFLEN, MIXMDATE, MIXSTART, MIXUSED, NUMBLKSCOD, PANINFO2E, PANINFOE, PGMSCL2E, PGMSCLE, SCALE-EXISTS, STRMTYP}
 use Rattle.walk.specs.Syntax.{_⧺_}
 
--- sample rate, blocks and channels. numblks is 1, 2, 3 or 6; nfchans by acmod (Table 5.8 of A/52, Table 4.3 of TS 102 366)
-unfoldable pub rates : Block
-rates =
-    element fscod none 2 (cell FSCOD)
-    ⨾ reject (Is (cell FSCOD) 3) 5
-    ⨾ element numblkscod none 2 (cell NUMBLKSCOD)
-    ⨾ put (cell NUMBLKS) (Let 1 0 no)
+-- numblks is 1, 2, 3 or 6
+unfoldable pub numblks-by : Block
+numblks-by =
+    put (cell NUMBLKS) (Let 1 0 no)
     ⨾ when (Is (cell NUMBLKSCOD) 1)
     (put (cell NUMBLKS) (Let 2 0 no)
     ⨾ end)
@@ -24,8 +21,12 @@ rates =
     ⨾ when (Is (cell NUMBLKSCOD) 3)
     (put (cell NUMBLKS) (Let 6 0 no)
     ⨾ end)
-    ⨾ element acmod none 3 (cell ACMOD)
-    ⨾ put (cell NFCHANS) (Let 2 0 no)
+    ⨾ end
+
+-- nfchans by acmod (Table 5.8 of A/52, Table 4.3 of TS 102 366)
+unfoldable pub nfchans-by : Block
+nfchans-by =
+    put (cell NFCHANS) (Let 2 0 no)
     ⨾ when (Is (cell ACMOD) 1)
     (put (cell NFCHANS) (Let 1 0 no)
     ⨾ end)
@@ -38,8 +39,21 @@ rates =
     ⨾ when (Is (cell ACMOD) 7)
     (put (cell NFCHANS) (Let 5 0 no)
     ⨾ end)
-    ⨾ element lfeon none 1 (cell LFEON)
     ⨾ end
+
+-- sample rate, blocks and channels
+unfoldable pub rates : Block
+rates =
+    (element fscod none 2 (cell FSCOD)
+    ⨾ reject (Is (cell FSCOD) 3) 5
+    ⨾ element numblkscod none 2 (cell NUMBLKSCOD)
+    ⨾ end)
+    ⧺ numblks-by
+    ⧺ (element acmod none 3 (cell ACMOD)
+    ⨾ end)
+    ⧺ nfchans-by
+    ⧺ (element lfeon none 1 (cell LFEON)
+    ⨾ end)
 
 -- bsid is 11 to 16. The loudness words of the programme
 unfoldable pub loudness : Block
@@ -67,14 +81,17 @@ loudness2 =
     ⨾ end
 
 -- the channel map of a dependent substream
-unfoldable pub channels : Block
-channels =
-    when (Is (cell STRMTYP) 1)
-    (element chanmape none 1 (cell CHANMAPE)
+unfoldable pub chanmaps : Block
+chanmaps =
+    element chanmape none 1 (cell CHANMAPE)
     ⨾ when (Is (cell CHANMAPE) 1)
     (element chanmap none 16 no
     ⨾ end)
-    ⨾ end)
+    ⨾ end
+
+unfoldable pub channels : Block
+channels =
+    when (Is (cell STRMTYP) 1) chanmaps
     ⨾ end
 
 unfoldable pub bsi-head : Block

@@ -14,11 +14,11 @@ use Rattle.walk.specs.Syntax.{turns, item, meaning}
 use Rattle.annex.specs.Audblk.{cpl-strategy, bandwidth}
 use Rattle.walk.specs.Syntax.{_⧺_}
 use Rattle.annex.specs.Syncinfo.{syncinfo}
-use Rattle.annex.specs.Bsi.{rates, loudness, loudness2, channels, bsi-head, bsi}
+use Rattle.annex.specs.Bsi.{numblks-by, nfchans-by, rates, loudness, loudness2, chanmaps, channels, bsi-head, bsi}
 use Rattle.annex.specs.Annex.{header, body}
 use Rattle.eac3.specs.Frame.{start, eac3}
 use Rattle.eac3.specs.Edges.{Edge, edges}
 
 pub edges-hold : map (λ (e : Edge). e .gives) edges ≡ map (λ (e : Edge). e .is) edges
-unfolding bitAt bitsAt _>>=_ after run framed sized parse bndend bandOf snroffset powersBelow blkstrtinfoBits cellOf putIn turns item meaning _⧺_ syncinfo rates loudness loudness2 channels bsi-head bsi cpl-strategy bandwidth header body start eac3 edges
+unfolding bitAt bitsAt _>>=_ after run framed sized parse bndend bandOf snroffset powersBelow blkstrtinfoBits cellOf putIn turns item meaning _⧺_ syncinfo numblks-by nfchans-by rates loudness loudness2 chanmaps channels bsi-head bsi cpl-strategy bandwidth header body start eac3 edges
 edges-hold = refl

@@ -23,7 +23,7 @@ use Rattle.names.specs.Names.{syncword}
 use Rattle.annex.specs.Cells.{SYNCWORD}
 use Rattle.walk.specs.Syntax.{_⧺_}
 use Rattle.annex.specs.Syncinfo.{syncinfo}
-use Rattle.annex.specs.Bsi.{rates, loudness, loudness2, channels, bsi-head, mixdef3, mixing, info, bsi}
+use Rattle.annex.specs.Bsi.{numblks-by, nfchans-by, rates, loudness, loudness2, chanmaps, channels, bsi-head, mixdef3, mixing, info, bsi}
 use Rattle.annex.specs.Audfrm.{flags, strategies, hybrid, offsets, audfrm}
 use Rattle.annex.specs.Audblk.{dynamics, spx-strategy, spx-coordinates, cpl-strategy, cpl-coordinates, rematrixing, bandwidth, exponents, parameters, deltas, mantissas-of-block, audblk}
 use Rattle.annex.specs.Annex.{header, audblks, body}
@@ -102,15 +102,15 @@ module _ {A : Type 0} (N : TailNames) (b : List ℕ) (l : ℕ) where
 
 -- what the syntax of Annex E can make, and refuse
 zeros-body : zeros body ≡ 15
-unfolding zeros _⧺_ rates loudness loudness2 channels bsi-head mixdef3 mixing info bsi flags strategies hybrid offsets audfrm dynamics spx-strategy spx-coordinates cpl-strategy cpl-coordinates rematrixing bandwidth exponents parameters deltas mantissas-of-block audblk audblks body
+unfolding zeros _⧺_ numblks-by nfchans-by rates loudness loudness2 chanmaps channels bsi-head mixdef3 mixing info bsi flags strategies hybrid offsets audfrm dynamics spx-strategy spx-coordinates cpl-strategy cpl-coordinates rematrixing bandwidth exponents parameters deltas mantissas-of-block audblk audblks body
 zeros-body = refl
 
 counted-body : counted body ≡ true
-unfolding zeros counted _⧺_ rates loudness loudness2 channels bsi-head mixdef3 mixing info bsi flags strategies hybrid offsets audfrm dynamics spx-strategy spx-coordinates cpl-strategy cpl-coordinates rematrixing bandwidth exponents parameters deltas mantissas-of-block audblk audblks body
+unfolding zeros counted _⧺_ numblks-by nfchans-by rates loudness loudness2 chanmaps channels bsi-head mixdef3 mixing info bsi flags strategies hybrid offsets audfrm dynamics spx-strategy spx-coordinates cpl-strategy cpl-coordinates rematrixing bandwidth exponents parameters deltas mantissas-of-block audblk audblks body
 counted-body = refl
 
 rejects-body : rejects body ≡ true
-unfolding rejects _⧺_ rates loudness loudness2 channels bsi-head mixdef3 mixing info bsi flags strategies hybrid offsets audfrm dynamics spx-strategy spx-coordinates cpl-strategy cpl-coordinates rematrixing bandwidth exponents parameters deltas mantissas-of-block audblk audblks body
+unfolding rejects _⧺_ numblks-by nfchans-by rates loudness loudness2 chanmaps channels bsi-head mixdef3 mixing info bsi flags strategies hybrid offsets audfrm dynamics spx-strategy spx-coordinates cpl-strategy cpl-coordinates rematrixing bandwidth exponents parameters deltas mantissas-of-block audblk audblks body
 rejects-body = refl
 
 rejects-header : rejects header ≡ true

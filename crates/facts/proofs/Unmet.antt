@@ -17,7 +17,7 @@ use Rattle.walk.specs.Syntax.{_⧺_}
 use Rattle.annex.specs.Audblk.{dynamics, spx-strategy, spx-coordinates, cpl-strategy, cpl-coordinates, rematrixing, bandwidth, exponents, parameters, deltas, mantissas-of-block, audblk}
 use Rattle.annex.specs.Annex.{header, audblks, body}
 use Rattle.annex.specs.Audfrm.{flags, strategies, hybrid, offsets, audfrm}
-use Rattle.annex.specs.Bsi.{rates, loudness, loudness2, channels, bsi-head, mixdef3, mixing, info, bsi}
+use Rattle.annex.specs.Bsi.{numblks-by, nfchans-by, rates, loudness, loudness2, chanmaps, channels, bsi-head, mixdef3, mixing, info, bsi}
 use Rattle.eac3.specs.Frame.{start, bytesOf}
 use Rattle.annex.specs.Syncinfo.{syncinfo}
 use Rattle.annex.specs.Cells.{BLK, SNROFFSTSTR}

@@ -76,6 +76,13 @@ module _ (s : List ℕ) (l : ℕ) where
     pub runs-more : {st st₁ st₂ : State} {mem₁ mem₂ : List ℕ} → Runs s l a c st z c₁ st₁ z₁ mem₁ → Runs s l b c₁ st₁ z₁ c₂ st₂ z₂ mem₂ → Runs s l (a ⧺ b) c st z c₂ st₂ z₂ mem₂
     runs-more {st} {st₁} x y = record { is = y .is ∙ after-more a b c st z c₁ st₁ z₁ (x .is); held = y .held; right = y .right }
 
+  -- a page is its parts
+  pub reads-is : {a b : Block} {c : Cursor} {m : List ℕ} {z : Room} {c′ : Cursor} {m′ : List ℕ} {z′ : Room} → Reads s l a c m z c′ m′ z′ → a ≡ b → Reads s l b c m z c′ m′ z′
+  reads-is {c} {m} {z} {c′} {m′} {z′} x e = subst (λ (b : Block). Reads s l b c m z c′ m′ z′) e x
+
+  pub runs-is : {a b : Block} {c : Cursor} {st : State} {z : Room} {c′ : Cursor} {st′ : State} {z′ : Room} {mem′ : List ℕ} → Runs s l a c st z c′ st′ z′ mem′ → a ≡ b → Runs s l b c st z c′ st′ z′ mem′
+  runs-is {c} {st} {z} {c′} {st′} {z′} {mem′} x e = subst (λ (b : Block). Runs s l b c st z c′ st′ z′ mem′) e x
+
   pub reads-runs : {b : Block} {c : Cursor} {m : List ℕ} {z : Room} {c′ : Cursor} {m′ : List ℕ} {z′ : Room} {bins mem : List ℕ} → Held bins → Memo mem bins → Reads s l b c m z c′ m′ z′
       → Runs s l b c (state m bins) z c′ (state m′ bins) z′ mem
   reads-runs {bins} h r x = record { is = x .is bins; held = h; right = r }
@@ -149,6 +156,14 @@ module _ (s : List ℕ) (l : ℕ) (b : Block) (q : Cond) (c : Cursor) (st : Stat
       go true = refl
       go false = refl
 
+-- a block that a condition guards, in code
+module _ (s : List ℕ) (l : ℕ) (b : Block) (q : Cond) (c : Cursor) (m : List ℕ) (z : Room) where
+  pub reads-on : (on : Bool) → on ≡ holdsOf q m → on ≡ true → (c′ : Cursor) (m′ : List ℕ) (z′ : Room) → Reads s l b c m z c′ m′ z′ → Reads s l (when q b ⨾ end) c m z c′ m′ z′
+  reads-on on e h c′ m′ z′ x = record { is = λ bins. x .is bins ∙ when-on s l b q c (state m bins) z (sym e ∙ h) }
+
+  pub reads-off : (on : Bool) → on ≡ holdsOf q m → on ≡ false → Reads s l (when q b ⨾ end) c m z c m z
+  reads-off on e h = record { is = λ bins. when-off s l b q c (state m bins) z (sym e ∙ h) }
+
 -- an element without an index, if a condition holds
 module _ (s : List ℕ) (l name w k : ℕ) (c : Cursor) (m : List ℕ) (z : Room) where
   pub optional-on : (on : Bool) → on ≡ true → (c′ : Cursor) (m′ : List ℕ) (z′ : Room) → Reads s l (element name none w (cell k) ⨾ end) c m z c′ m′ z′ → Optional s l on name w k c m z c′ m′ z′
@@ -179,7 +194,7 @@ module _ (number : ℕ) (c : Cursor) where
 -- a derivation
 module _ (k : ℕ) (c : Cursor) (st : State) where
   pub derive-stopped : (mem : List ℕ) → c .stopped ≡ true → Held (st .bins) → Memo mem (st .bins) → Derives k c st c st mem
-  derive-stopped mem h hh hr = record { is = λ s l z. record { is = after-stopped s l (act k 0 ⨾ end) c st z h; held = hh; right = hr } }
+  derive-stopped mem h hh hr = record { is = λ s l z. record { is = after-stopped s l (act k 0 ⨾ end) c st z h; held = hh; right = hr }; held = hh; right = hr }
 
   module _ (h : c .stopped ≡ false) (hh : Held (st .bins)) (n : ℕ) (su : State) (memu : List ℕ) (acts : (acted n su ≡ actOf k 0 st) × Memo memu (su .bins)) where
     acts-held : Held (su .bins)
@@ -187,26 +202,30 @@ module _ (k : ℕ) (c : Cursor) (st : State) where
 
     pub derive-on : n ≡ 0 → Derives k c st c su memu
     unfolding exec meaning _>>=_
-    derive-on e = record { is = λ s l z. record { is = after-live s l (act k 0 ⨾ end) c st z _ h (rw (h, ← acts .0, e) refl); held = acts-held; right = acts .1 } }
+    derive-on e = record { is = λ s l z. record { is = after-live s l (act k 0 ⨾ end) c st z _ h (rw (h, ← acts .0, e) refl); held = acts-held; right = acts .1 }; held = acts-held; right = acts .1 }
 
     pub derive-off : ¬ (n ≡ 0) → (c′ : Cursor) → c′ ≡ haltedAt (c .at .0) (c .count) n → Derives k c st c′ su memu
     unfolding exec meaning _>>=_
     derive-off ne c′ ec = record {
       is = λ s l z. record { is = after-live s l (act k 0 ⨾ end) c st z _ h (rw (ec, ← acts .0, ne-eqb n 0 ne) refl); held = acts-held; right = acts .1 };
+      held = acts-held;
+      right = acts .1;
     }
 
 -- rows, if a condition holds
 module _ (s : List ℕ) (l : ℕ) (t : List ℕ) (on : Bool) (from to : ℕ) (c : Cursor) (st : State) (z : Room) (mem : List ℕ) (hh : Held (st .bins)) (hr : Memo mem (st .bins)) where
   pub guarded-stopped : c .stopped ≡ true → Guarded s l t on from to c st z c st z mem
-  guarded-stopped h = record { is = λ b k q e. record { is = after-stopped s l (when q b ⨾ end) c st z h; held = hh; right = hr } }
+  guarded-stopped h = record { is = λ b k q e. record { is = after-stopped s l (when q b ⨾ end) c st z h; held = hh; right = hr }; held = hh; right = hr }
 
   pub guarded-off : on ≡ false → Guarded s l t on from to c st z c st z mem
-  guarded-off h = record { is = λ b k q e. record { is = when-off s l b q c st z (sym e ∙ h); held = hh; right = hr } }
+  guarded-off h = record { is = λ b k q e. record { is = when-off s l b q c st z (sym e ∙ h); held = hh; right = hr }; held = hh; right = hr }
 
 pub guarded-on : (s : List ℕ) (l : ℕ) (t : List ℕ) (on : Bool) (from to : ℕ) (c : Cursor) (st : State) (z : Room) → c .stopped ≡ false → on ≡ true
     → (c′ : Cursor) (st′ : State) (z′ : Room) (mem′ : List ℕ) → Ran s l t from to c st z c′ st′ z′ mem′ → Guarded s l t on from to c st z c′ st′ z′ mem′
 guarded-on s l t on from to c st z h ho c′ st′ z′ mem′ r = record {
   is = λ b k q e. record { is = after-live s l b c st z _ h (r .runs b k) ∙ when-on s l b q c st z (sym e ∙ ho); held = r .held; right = r .right };
+  held = r .held;
+  right = r .right;
 }
 
 -- where the parts of a block stand

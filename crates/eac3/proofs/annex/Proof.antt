@@ -7,7 +7,7 @@ use Rattle.walk.specs.Syntax.{flat, size}
 use Rattle.walk.specs.Stands.{allNarrow}
 use Rattle.walk.specs.Syntax.{_⧺_}
 use Rattle.annex.specs.Syncinfo.{syncinfo}
-use Rattle.annex.specs.Bsi.{rates, loudness, loudness2, channels, bsi-head, mixdef3, mixing, info, bsi}
+use Rattle.annex.specs.Bsi.{numblks-by, nfchans-by, rates, loudness, loudness2, chanmaps, channels, bsi-head, mixdef3, mixing, info, bsi}
 use Rattle.annex.specs.Audfrm.{flags, strategies, hybrid, offsets, audfrm}
 use Rattle.annex.specs.Audblk.{dynamics, spx-strategy, spx-coordinates, cpl-strategy, cpl-coordinates, rematrixing, bandwidth, exponents, parameters, deltas, mantissas-of-block, audblk}
 use Rattle.annex.specs.Annex.{header, audblks, body}
@@ -22,7 +22,7 @@ joined-requires : tie.Need-joined-requires
 joined-requires c κs = search needs
 
 returns : tie.Need-returns
-unfolding rowOf condOf valueOf boundOf flat allNarrow _⧺_ syncinfo rates loudness loudness2 channels bsi-head mixdef3 mixing info bsi flags strategies hybrid offsets audfrm dynamics spx-strategy spx-coordinates cpl-strategy cpl-coordinates rematrixing bandwidth exponents parameters deltas mantissas-of-block audblk header audblks body
+unfolding rowOf condOf valueOf boundOf flat allNarrow _⧺_ syncinfo numblks-by nfchans-by rates loudness loudness2 chanmaps channels bsi-head mixdef3 mixing info bsi flags strategies hybrid offsets audfrm dynamics spx-strategy spx-coordinates cpl-strategy cpl-coordinates rematrixing bandwidth exponents parameters deltas mantissas-of-block audblk header audblks body
 returns c =
     subst Annexed (sym (c .joined .ensures))
     (record {

@@ -1,0 +1,56 @@
+use Rattle.page.proofs.Pages.{reads-on, reads-off}
+use Rattle.annex.specs.Bsi.{channels}
+use borrow.Author.Needs.{needs}
+use Rattle.bsi.proofs.channels.Statement.{statement}
+use Rattle.bsi.proofs.channels.Tie as tie
+use Rattle.bsi.proofs.channels.Reads as reads
+use Rattle.bsi.proofs.channels.Lts as lts
+use Rattle.bsi.proofs.channel_map.Reads as channel-map-reads
+use Rattle.page.proofs.is.Reads as is-reads
+
+is-requires : tie.Need-is-requires
+is-requires c κs = search needs
+
+channel-map-requires : tie.Need-channel-map-requires
+channel-map-requires c κs = search needs
+
+same-length : tie.Need-same-length
+same-length c = search needs
+
+same-length-2 : tie.Need-same-length-2
+same-length-2 c = search needs
+
+same-length-3 : tie.Need-same-length-3
+same-length-3 c = search needs
+
+same-length-4 : tie.Need-same-length-4
+same-length-4 c = search needs
+
+same-length-5 : tie.Need-same-length-5
+same-length-5 c = search needs
+
+same-length-6 : tie.Need-same-length-6
+same-length-6 c = search needs
+
+returns : tie.Need-returns
+unfolding channels
+returns c = reads-on _ _ _ _ _ _ _ _ (c .before .before .before .before .before .before .before .before .before .before .before .before .before .before .before .before .before .before .before .is .ensures) (c .before .before .before .before .before .before .before .before .before .before .before .before .before .before .before .before .before .before .if1 .taken) _ _ _ (c .before .before .before .before .before .before .before .before .before .before .channel-map .ensures)
+
+returns-2 : tie.Need-returns-2
+unfolding channels
+returns-2 c = reads-off _ _ _ _ _ _ _ _ (c .before .is .ensures) (c .if1 .left)
+
+pub channels-spec : {M : Type 1} → statement M
+channels-spec =
+    tie.close
+    (tie.spec
+    is-requires
+    channel-map-requires
+    same-length
+    same-length-2
+    same-length-3
+    same-length-4
+    same-length-5
+    same-length-6
+    returns
+    returns-2)
