@@ -12,6 +12,8 @@ ghost use Rattle.syntax.specs.Records.{told};
 ghost use Rattle.walk.specs.Cells.{state, cellOf};
 ghost use Rattle.walk.specs.CellNames.{FRMSIZ as frmsiz};
 ghost use Rattle.annex.specs.Rows.{Annexed};
+ghost use Rattle.annex.specs.Annex.{body as bodyOfAnnex};
+ghost use Rattle.page.specs.Page.{Page, Runs};
 ghost use Rattle.eac3.specs.Frame.{eac3};
 ghost use Rattle.eac3.specs.Answer.{Called};
 ghost use Rattle.eac3.specs.Parts.{placed, followed, Tailed, Bodied, Sized, Fresh, bodyOf, readOf};
@@ -19,9 +21,12 @@ use answer::Answer;
 use answer::answer_of;
 use bits::BitPlace;
 use bits::ByteCount;
+use bsi::bsi;
+use bsi::header;
 use frame::TailNames;
 use frame::read_tail;
 use names::numbers as n;
+use page::rows_on;
 use syntax::Cursor;
 use syntax::going;
 use syntax::halted;
@@ -29,7 +34,6 @@ use table::FIRST;
 use table::SECOND;
 use walk::cells::FRMSIZ;
 use walk::cells::cell_of;
-use walk::rows;
 
 // The one array and then the other.
 fn joined(first: [u64; 320], second: [u64; 320]) -> [u64; 640]
@@ -91,6 +95,60 @@ fn tailed(
     )
 }
 
+// The body: bsi, audfrm and the blocks.
+fn body(
+    src: &[u8],
+    names: &mut [u8],
+    blocks: &mut [i8],
+    indexes: &mut [i16],
+    firsts: &mut [u16],
+    widths: &mut [u16],
+    values: &mut [u32],
+    table: &[u64; 640],
+    cells: &mut [u16; 640],
+    bins: &mut [u8; 3584],
+    memo: &mut [u8; 2128],
+    cur: Cursor,
+    limit: BitPlace,
+) -> Cursor
+    requires { ⌜ Page (now src) (limit .0) (now table) (now bins) (now memo) bodyOfAnnex 8 630 ⌝ }
+    ensures { λ r. ⌜ Runs (now (src .entry)) (limit .0) bodyOfAnnex cur (state (now (cells .entry)) (now (bins .entry))) (room (now (names .entry)) (now (blocks .entry)) (now (indexes .entry)) (now (firsts .entry)) (now (widths .entry)) (now (values .entry)))
+        r (state (now (cells .exit)) (now (bins .exit))) (room (now (names .exit)) (now (blocks .exit)) (now (indexes .exit)) (now (firsts .exit)) (now (widths .exit)) (now (values .exit))) (now (memo .exit)) ⌝ }
+{
+    let c = bsi(
+        src,
+        names,
+        blocks,
+        indexes,
+        firsts,
+        widths,
+        values,
+        table,
+        cells,
+        bins,
+        memo,
+        cur,
+        limit,
+    );
+    rows_on(
+        src,
+        names,
+        blocks,
+        indexes,
+        firsts,
+        widths,
+        values,
+        table,
+        cells,
+        bins,
+        memo,
+        c,
+        limit,
+        189,
+        630,
+    )
+}
+
 // The frame from the end of the header to its own end.
 fn bodied(
     src: &[u8],
@@ -111,7 +169,7 @@ fn bodied(
     ensures { λ r. ⌜ told r (state (now (cells .exit)) (now (bins .exit))) (room (now (names .exit)) (now (blocks .exit)) (now (indexes .exit)) (now (firsts .exit)) (now (widths .exit)) (now (values .exit)))
         ≡ placed (cur .count) (room (now (names .entry)) (now (blocks .entry)) (now (indexes .entry)) (now (firsts .entry)) (now (widths .entry)) (now (values .entry))) (bodyOf (now (src .entry)) (limit .0) (state (now (cells .entry)) (now (bins .entry))) (cur .at .0)) ⌝ }
 {
-    let c = rows(
+    let c = body(
         src,
         names,
         blocks,
@@ -125,8 +183,6 @@ fn bodied(
         memo,
         cur,
         limit,
-        8,
-        630,
     );
     tailed(
         src,
@@ -209,7 +265,7 @@ fn read(
     ensures { λ r. ⌜ told r (state (now (cells .exit)) (now (bins .exit))) (room (now (names .exit)) (now (blocks .exit)) (now (indexes .exit)) (now (firsts .exit)) (now (widths .exit)) (now (values .exit)))
         ≡ placed 0 (room (now (names .entry)) (now (blocks .entry)) (now (indexes .entry)) (now (firsts .entry)) (now (widths .entry)) (now (values .entry))) (readOf (now (src .entry))) ⌝ }
 {
-    let cur = rows(
+    let cur = header(
         src,
         names,
         blocks,
@@ -217,14 +273,9 @@ fn read(
         firsts,
         widths,
         values,
-        table,
         cells,
-        bins,
-        memo,
         going(BitPlace(0), 0),
         BitPlace(48),
-        0,
-        8,
     );
     sized(
         src,

@@ -311,7 +311,7 @@ module _ (s : List ℕ) (l : ℕ) where
   pass-hybrid = refl
 
   pass-bsi : passes (keeps []) bsi ≡ true
-  unfolding passes _⧺_ bsi-head mixdef3 mixing info bsi
+  unfolding passes _⧺_ numblks-by nfchans-by rates loudness loudness2 chanmaps channels bsi-head mixdef3 mixing info bsi
   pass-bsi = refl
 
   frame-walk : (st : State) (p : ℕ) (es : List Entry) → Within (st .cells) → Walks s l Unmet audfrm st p es Framed

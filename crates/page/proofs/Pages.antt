@@ -33,7 +33,7 @@ use Rattle.walk.specs.Stands.{Stands, Ran}
 use Rattle.walk.proofs.ExpActs.{act-held}
 use Rattle.walk.proofs.Blocks.{meaning-append, flat-append, size-append, drop-row, drop-flat}
 use lib.Seq.{drop-drop}
-use Rattle.page.specs.Page.{after, askOf, Reads, Runs, Calms, Elements, Optional, Rejects, Sets, Guarded, Derives}
+use Rattle.page.specs.Page.{after, askOf, Reads, Runs, Calms, Elements, Optional, Rejects, Sets, Guarded, Ranged, Derives}
 
 -- a cell by its number alone
 pub place-cell : (k : ℕ) (m : List ℕ) → k ≡ placeOf (cell k) m
@@ -227,6 +227,23 @@ guarded-on s l t on from to c st z h ho c′ st′ z′ mem′ r = record {
   held = r .held;
   right = r .right;
 }
+
+-- rows, whatever holds
+pub ranged-stopped : (s : List ℕ) (l : ℕ) (t : List ℕ) (from to : ℕ) (c : Cursor) (st : State) (z : Room) (mem : List ℕ) → Held (st .bins) → Memo mem (st .bins) → c .stopped ≡ true
+    → Ranged s l t from to c st z c st z mem
+ranged-stopped s l t from to c st z mem hh hr h = record { is = λ b k. record { is = after-stopped s l b c st z h; held = hh; right = hr }; held = hh; right = hr }
+
+pub ranged-on : (s : List ℕ) (l : ℕ) (t : List ℕ) (from to : ℕ) (c : Cursor) (st : State) (z : Room) → c .stopped ≡ false
+    → (c′ : Cursor) (st′ : State) (z′ : Room) (mem′ : List ℕ) → Ran s l t from to c st z c′ st′ z′ mem′ → Ranged s l t from to c st z c′ st′ z′ mem′
+ranged-on s l t from to c st z h c′ st′ z′ mem′ r = record {
+  is = λ b k. record { is = after-live s l b c st z _ h (r .runs b k); held = r .held; right = r .right };
+  held = r .held;
+  right = r .right;
+}
+
+-- what a block comes to after a reading that is not stopped
+pub live-exec : (s : List ℕ) (l : ℕ) (b : Block) (c : Cursor) (st : State) (z : Room) → c .stopped ≡ false → after s l b c st z ≡ exec s l (meaning b st) (c .at .0) (c .count) z
+live-exec s l b c st z h = rw h refl
 
 -- where the parts of a block stand
 module _ (t : List ℕ) where

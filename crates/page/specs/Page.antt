@@ -78,6 +78,12 @@ pub record Guarded (s : List ℕ) (l : ℕ) (t : List ℕ) (on : Bool) (from to 
   pub held : Held (st′ .bins)
   pub right : Memo mem′ (st′ .bins)
 
+-- and whatever holds
+pub record Ranged (s : List ℕ) (l : ℕ) (t : List ℕ) (from to : ℕ) (c : Cursor) (st : State) (z : Room) (c′ : Cursor) (st′ : State) (z′ : Room) (mem′ : List ℕ) : Type 0 where
+  pub is : (b : Block) → Stands t b from to → Runs s l b c st z c′ st′ z′ mem′
+  pub held : Held (st′ .bins)
+  pub right : Memo mem′ (st′ .bins)
+
 -- a derivation
 pub record Derives (k : ℕ) (c : Cursor) (st : State) (c′ : Cursor) (st′ : State) (mem′ : List ℕ) : Type 0 where
   pub is : (s : List ℕ) (l : ℕ) (z : Room) → Runs s l (act k 0 ⨾ end) c st z c′ st′ z mem′

@@ -11,7 +11,7 @@ ghost use Rattle.walk.specs.declared.table.Cond.the-variants.{Is, Not, Above, B
 ghost use Rattle.walk.specs.declared.table.Value.the-variants.{Let};
 ghost use Rattle.blocks.specs.Held.{Held};
 ghost use Rattle.blocks.specs.Memo.{Memo};
-ghost use Rattle.page.specs.Page.{askOf, Reads, Calms, Elements, Optional, Rejects, Sets, Paged, Guarded, Derives};
+ghost use Rattle.page.specs.Page.{askOf, Reads, Calms, Elements, Optional, Rejects, Sets, Paged, Guarded, Ranged, Derives};
 use bits::BitPlace;
 use syntax::Cursor;
 use syntax::halted;
@@ -298,4 +298,48 @@ pub fn rows_when(
         );
     }
     cur
+}
+
+// The rows of a part, whatever it is.
+pub fn rows_on(
+    src: &[u8],
+    names: &mut [u8],
+    blocks: &mut [i8],
+    indexes: &mut [i16],
+    firsts: &mut [u16],
+    widths: &mut [u16],
+    values: &mut [u32],
+    table: &[u64; 640],
+    cells: &mut [u16; 640],
+    bins: &mut [u8; 3584],
+    memo: &mut [u8; 2128],
+    cur: Cursor,
+    limit: BitPlace,
+    from: usize,
+    to: usize,
+) -> Cursor
+    requires { ⌜ Paged (now src) (limit .0) (now table) (now bins) (now memo) from to ⌝ }
+    ensures { λ r. ⌜ Ranged (now (src .entry)) (limit .0) (now (table .entry)) from to cur (state (now (cells .entry)) (now (bins .entry))) (room (now (names .entry)) (now (blocks .entry)) (now (indexes .entry)) (now (firsts .entry)) (now (widths .entry)) (now (values .entry)))
+        r (state (now (cells .exit)) (now (bins .exit))) (room (now (names .exit)) (now (blocks .exit)) (now (indexes .exit)) (now (firsts .exit)) (now (widths .exit)) (now (values .exit))) (now (memo .exit)) ⌝ }
+{
+    if cur.stopped {
+        return cur;
+    }
+    rows(
+        src,
+        names,
+        blocks,
+        indexes,
+        firsts,
+        widths,
+        values,
+        table,
+        cells,
+        bins,
+        memo,
+        cur,
+        limit,
+        from,
+        to,
+    )
 }

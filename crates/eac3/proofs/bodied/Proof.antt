@@ -1,17 +1,17 @@
 use Rattle.eac3.proofs.Parts.{follows}
 use mathlib.Core.Path.{_∙_}
-use Rattle.annex.specs.Annex.{body}
 use Rattle.eac3.specs.Parts.{bodyOf}
+use Rattle.page.proofs.Pages.{live-exec}
 use borrow.Author.Needs.{needs}
 use Rattle.eac3.proofs.bodied.Statement.{statement}
 use Rattle.eac3.proofs.bodied.Tie as tie
 use Rattle.eac3.proofs.bodied.Reads as reads
 use Rattle.eac3.proofs.bodied.Lts as lts
+use Rattle.eac3.proofs.body.Reads as body-reads
 use Rattle.eac3.proofs.tailed.Reads as tailed-reads
-use Rattle.walk.proofs.rows.Reads as rows-reads
 
-rows-requires : tie.Need-rows-requires
-rows-requires c κs = search needs
+body-requires : tie.Need-body-requires
+body-requires c κs = record { stands = c .before .before .before .before .before .before .before .before .before .before .before .before .before .before .pre .annexed .bodied; table = c .before .before .before .before .before .before .before .before .before .before .before .before .before .before .pre .annexed .table; within = c .before .before .before .before .before .before .before .before .before .before .before .before .before .before .pre .within; held = c .before .before .before .before .before .before .before .before .before .before .before .before .before .before .pre .held; right = c .before .before .before .before .before .before .before .before .before .before .before .before .before .before .pre .right }
 
 tailed-requires : tie.Need-tailed-requires
 tailed-requires c κs = c .before .before .before .before .before .before .before .before .before .before .before .before .before .before .before .before .before .before .before .before .before .before .before .before .before .before .before .before .before .before .before .pre .within
@@ -36,13 +36,13 @@ same-length-6 c = search needs
 
 returns : tie.Need-returns
 unfolding bodyOf
-returns c = c .before .before .before .before .before .before .before .before .before .before .tailed .ensures .tells _ ∙ follows _ _ _ _ _ _ (c .before .before .before .before .before .before .before .before .before .before .before .before .before .before .before .before .before .before .before .before .before .before .before .before .before .before .before .rows .result) _ _ _ (c .before .before .before .before .before .before .before .before .before .before .before .before .before .before .before .before .before .before .before .before .before .before .before .before .before .before .before .rows .ensures .runs body (c .before .before .before .before .before .before .before .before .before .before .before .before .before .before .before .before .before .before .before .before .before .before .before .before .before .before .before .before .before .before .before .before .before .before .before .before .before .before .before .before .before .before .pre .annexed .bodied))
+returns c = c .before .before .before .before .before .before .before .before .before .before .tailed .ensures .tells _ ∙ follows _ _ _ _ _ _ (c .before .before .before .before .before .before .before .before .before .before .before .before .before .before .before .before .before .before .before .before .before .before .before .before .before .before .before .body .result) _ _ _ (c .before .before .before .before .before .before .before .before .before .before .before .before .before .before .before .before .before .before .before .before .before .before .before .before .before .before .before .body .ensures .is ∙ live-exec _ _ _ _ _ _ (c .before .before .before .before .before .before .before .before .before .before .before .before .before .before .before .before .before .before .before .before .before .before .before .before .before .before .before .before .before .before .before .before .before .before .before .before .before .before .before .before .before .before .pre .live))
 
 pub bodied-spec : {M : Type 1} → statement M
 bodied-spec =
     tie.close
     (tie.spec
-    rows-requires
+    body-requires
     tailed-requires
     same-length
     same-length-2

@@ -1,25 +1,29 @@
 use Rattle.eac3.proofs.Parts.{held-start, small-size, begins}
 use native.Mathlib.Omega.{arith}
-use mathlib.Core.Path.{refl, sym, subst, _∙_}
+use mathlib.Core.Path.{sym, ap, subst, _∙_}
 use Rattle.blocks.specs.Held.{Held}
+use Rattle.syntax.specs.declared.Cursor.{Cursor}
 use Rattle.annex.specs.Annex.{header}
+use Rattle.walk.specs.Cells.{state}
+use Rattle.page.proofs.Pages.{live-exec}
 use borrow.Author.Needs.{needs}
 use Rattle.eac3.proofs.read.Statement.{statement}
 use Rattle.eac3.proofs.read.Tie as tie
 use Rattle.eac3.proofs.read.Reads as reads
 use Rattle.eac3.proofs.read.Lts as lts
+use Rattle.bsi.proofs.header.Reads as header-reads
 use Rattle.eac3.proofs.sized.Reads as sized-reads
 use Rattle.syntax.proofs.going.Reads as going-reads
-use Rattle.walk.proofs.rows.Reads as rows-reads
 
 going-requires : tie.Need-going-requires
 going-requires c κs = search needs
 
-rows-requires : tie.Need-rows-requires
-rows-requires c κs = record { what = header; stands = c .before .before .before .before .before .before .before .before .before .before .before .before .before .before .before .pre .annexed .headed; table = c .before .before .before .before .before .before .before .before .before .before .before .before .before .before .before .pre .annexed .table; within = omega (arith, c .before .before .before .before .before .before .before .before .before .before .before .before .before .before .before .pre .six); held = subst Held (sym (c .before .before .before .before .before .before .before .before .before .before .before .before .before .before .before .pre .no-bins)) held-start; right = c .before .before .before .before .before .before .before .before .before .before .before .before .before .before .before .pre .right; live = rw (c .going .ensures) refl }
+header-requires : tie.Need-header-requires
+header-requires c κs = omega (arith, c .before .before .before .before .before .before .before .before .before .before .before .before .before .pre .six)
 
 sized-requires : tie.Need-sized-requires
-sized-requires c κs = record { annexed = c .before .before .before .before .before .before .before .before .before .before .before .before .before .before .before .before .before .before .before .before .before .before .before .before .before .before .before .before .before .before .before .before .before .before .before .pre .annexed; held = c .before .before .before .before .before .before .before .before .before .before .before .before .before .before .before .before .before .before .before .rows .ensures .held; right = c .before .before .before .before .before .before .before .before .before .before .before .before .before .before .before .before .before .before .before .rows .ensures .right; small = small-size _ _ (c .before .before .before .before .before .before .before .before .before .before .before .before .before .before .before .before .before .before .before .rows .result) _ _ _ _ (c .before .before .before .before .before .before .before .before .before .before .before .before .before .before .before .before .before .before .before .before .before .before .before .before .before .before .before .before .before .before .before .before .before .before .before .pre .no-cells) (c .before .before .before .before .before .before .before .before .before .before .before .before .before .before .before .before .before .before .before .before .before .before .before .before .before .before .before .before .before .before .before .before .before .before .before .pre .no-bins) _ (c .before .before .before .before .before .before .before .before .before .before .before .before .before .before .before .before .before .before .before .before .going .ensures) (c .before .before .before .before .before .before .before .before .before .before .before .before .before .before .before .before .before .before .before .rows .ensures .runs header (c .before .before .before .before .before .before .before .before .before .before .before .before .before .before .before .before .before .before .before .before .before .before .before .before .before .before .before .before .before .before .before .before .before .before .before .pre .annexed .headed)) }
+unfolding header
+sized-requires c κs = record { annexed = c .before .before .before .before .before .before .before .before .before .before .before .before .before .before .before .before .before .before .before .before .before .before .before .before .before .before .before .before .before .before .before .before .before .pre .annexed; held = subst Held (sym (c .before .before .before .before .before .before .before .before .before .before .before .before .before .before .before .before .before .before .before .before .before .before .before .before .before .before .before .before .before .before .before .before .before .pre .no-bins)) held-start; right = c .before .before .before .before .before .before .before .before .before .before .before .before .before .before .before .before .before .before .before .before .before .before .before .before .before .before .before .before .before .before .before .before .before .pre .right; small = small-size _ _ (c .before .before .before .before .before .before .before .before .before .before .before .before .before .before .before .before .before .before .before .header .result) (state _ _) _ _ _ (c .before .before .before .before .before .before .before .before .before .before .before .before .before .before .before .before .before .before .before .before .before .before .before .before .before .before .before .before .before .before .before .before .before .pre .no-cells) (c .before .before .before .before .before .before .before .before .before .before .before .before .before .before .before .before .before .before .before .before .before .before .before .before .before .before .before .before .before .before .before .before .before .pre .no-bins) _ (c .before .before .before .before .before .before .before .before .before .before .before .before .before .before .before .before .before .before .before .before .going .ensures) (c .before .before .before .before .before .before .before .before .before .before .before .before .before .before .before .before .before .before .before .header .ensures .is _ ∙ live-exec _ _ _ (c .before .before .before .before .before .before .before .before .before .before .before .before .before .before .before .before .before .before .before .before .going .result) _ _ (ap (λ (g : Cursor). g .stopped) (c .before .before .before .before .before .before .before .before .before .before .before .before .before .before .before .before .before .before .before .before .going .ensures))) }
 
 same-length : tie.Need-same-length
 same-length c = search needs
@@ -40,14 +44,15 @@ same-length-6 : tie.Need-same-length-6
 same-length-6 c = search needs
 
 returns : tie.Need-returns
-returns c = c .before .before .before .before .before .before .before .before .before .before .sized .ensures ∙ begins _ _ (c .before .before .before .before .before .before .before .before .before .before .before .before .before .before .before .before .before .before .before .before .before .before .before .before .before .before .before .before .before .before .rows .result) _ _ _ _ (c .before .before .before .before .before .before .before .before .before .before .before .before .before .before .before .before .before .before .before .before .before .before .before .before .before .before .before .before .before .before .before .before .before .before .before .before .before .before .before .before .before .before .before .before .before .before .pre .no-cells) (c .before .before .before .before .before .before .before .before .before .before .before .before .before .before .before .before .before .before .before .before .before .before .before .before .before .before .before .before .before .before .before .before .before .before .before .before .before .before .before .before .before .before .before .before .before .before .pre .no-bins) _ (c .before .before .before .before .before .before .before .before .before .before .before .before .before .before .before .before .before .before .before .before .before .before .before .before .before .before .before .before .before .before .before .going .ensures) (c .before .before .before .before .before .before .before .before .before .before .before .before .before .before .before .before .before .before .before .before .before .before .before .before .before .before .before .before .before .before .rows .ensures .runs header (c .before .before .before .before .before .before .before .before .before .before .before .before .before .before .before .before .before .before .before .before .before .before .before .before .before .before .before .before .before .before .before .before .before .before .before .before .before .before .before .before .before .before .before .before .before .before .pre .annexed .headed))
+unfolding header
+returns c = c .before .before .before .before .before .before .before .before .before .before .sized .ensures ∙ begins _ _ (c .before .before .before .before .before .before .before .before .before .before .before .before .before .before .before .before .before .before .before .before .before .before .before .before .before .before .before .before .before .before .header .result) (state _ _) _ _ _ (c .before .before .before .before .before .before .before .before .before .before .before .before .before .before .before .before .before .before .before .before .before .before .before .before .before .before .before .before .before .before .before .before .before .before .before .before .before .before .before .before .before .before .before .before .pre .no-cells) (c .before .before .before .before .before .before .before .before .before .before .before .before .before .before .before .before .before .before .before .before .before .before .before .before .before .before .before .before .before .before .before .before .before .before .before .before .before .before .before .before .before .before .before .before .pre .no-bins) _ (c .before .before .before .before .before .before .before .before .before .before .before .before .before .before .before .before .before .before .before .before .before .before .before .before .before .before .before .before .before .before .before .going .ensures) (c .before .before .before .before .before .before .before .before .before .before .before .before .before .before .before .before .before .before .before .before .before .before .before .before .before .before .before .before .before .before .header .ensures .is _ ∙ live-exec _ _ _ (c .before .before .before .before .before .before .before .before .before .before .before .before .before .before .before .before .before .before .before .before .before .before .before .before .before .before .before .before .before .before .before .going .result) _ _ (ap (λ (g : Cursor). g .stopped) (c .before .before .before .before .before .before .before .before .before .before .before .before .before .before .before .before .before .before .before .before .before .before .before .before .before .before .before .before .before .before .before .going .ensures)))
 
 pub read-spec : {M : Type 1} → statement M
 read-spec =
     tie.close
     (tie.spec
     going-requires
-    rows-requires
+    header-requires
     sized-requires
     same-length
     same-length-2
