@@ -15,14 +15,22 @@ unfoldable pub header : Block
 header = syncinfo
 
 -- each of the six blocks that the frame has
+unfoldable pub block-of : Block
+block-of =
+    when (Over (cell NUMBLKS) (cell BLK)) audblk
+    ⨾ end
+
+unfoldable pub blocks-of : Block
+blocks-of =
+    each BLK (from 0) (Fixed 6) block-of
+    ⨾ end
+
 unfoldable pub audblks : Block
 audblks =
-    each BLK (from 0) (Fixed 6)
-    (when (Over (cell NUMBLKS) (cell BLK)) audblk
-    ⨾ end)
-    ⨾ put (cell BLOCK) (Let 0 0 no)
+    blocks-of
+    ⧺ (put (cell BLOCK) (Let 0 0 no)
     ⨾ put (cell AUDIO-END) Here
-    ⨾ end
+    ⨾ end)
 
 unfoldable pub body : Block
 body = bsi ⧺ audfrm ⧺ audblks

@@ -19,6 +19,7 @@ ghost use Rattle.eac3.specs.Answer.{Called};
 ghost use Rattle.eac3.specs.Parts.{placed, followed, Tailed, Bodied, Sized, Fresh, bodyOf, readOf};
 use answer::Answer;
 use answer::answer_of;
+use audblk::turns::audblks;
 use bits::BitPlace;
 use bits::ByteCount;
 use bsi::bsi;
@@ -115,7 +116,7 @@ fn body(
     ensures { λ r. ⌜ Runs (now (src .entry)) (limit .0) bodyOfAnnex cur (state (now (cells .entry)) (now (bins .entry))) (room (now (names .entry)) (now (blocks .entry)) (now (indexes .entry)) (now (firsts .entry)) (now (widths .entry)) (now (values .entry)))
         r (state (now (cells .exit)) (now (bins .exit))) (room (now (names .exit)) (now (blocks .exit)) (now (indexes .exit)) (now (firsts .exit)) (now (widths .exit)) (now (values .exit))) (now (memo .exit)) ⌝ }
 {
-    let c = bsi(
+    let a = bsi(
         src,
         names,
         blocks,
@@ -130,7 +131,7 @@ fn body(
         cur,
         limit,
     );
-    rows_on(
+    let b = rows_on(
         src,
         names,
         blocks,
@@ -142,10 +143,25 @@ fn body(
         cells,
         bins,
         memo,
-        c,
+        a,
         limit,
         189,
-        630,
+        294,
+    );
+    audblks(
+        src,
+        names,
+        blocks,
+        indexes,
+        firsts,
+        widths,
+        values,
+        table,
+        cells,
+        bins,
+        memo,
+        b,
+        limit,
     )
 }
 

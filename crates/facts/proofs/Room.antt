@@ -26,7 +26,7 @@ use Rattle.annex.specs.Syncinfo.{syncinfo}
 use Rattle.annex.specs.Bsi.{numblks-by, nfchans-by, rates, loudness, loudness2, chanmaps, channels, bsi-head, mixdef3, mixing, info, bsi}
 use Rattle.annex.specs.Audfrm.{flags, strategies, hybrid, offsets, audfrm}
 use Rattle.annex.specs.Audblk.{dynamics, spx-strategy, spx-coordinates, cpl-strategy, cpl-coordinates, rematrixing, bandwidth, exponents, parameters, deltas, mantissas-of-block, audblk}
-use Rattle.annex.specs.Annex.{header, audblks, body}
+use Rattle.annex.specs.Annex.{header, block-of, blocks-of, audblks, body}
 use Rattle.eac3.specs.Frame.{start, tailNames, bytesOf, eac3}
 use Rattle.eac3.specs.Answer.{answered, answerBy, answerOf, numberOf}
 use Rattle.eac3.proofs.Header.{frmsiz-is}
@@ -102,15 +102,15 @@ module _ {A : Type 0} (N : TailNames) (b : List ℕ) (l : ℕ) where
 
 -- what the syntax of Annex E can make, and refuse
 zeros-body : zeros body ≡ 15
-unfolding zeros _⧺_ numblks-by nfchans-by rates loudness loudness2 chanmaps channels bsi-head mixdef3 mixing info bsi flags strategies hybrid offsets audfrm dynamics spx-strategy spx-coordinates cpl-strategy cpl-coordinates rematrixing bandwidth exponents parameters deltas mantissas-of-block audblk audblks body
+unfolding zeros _⧺_ numblks-by nfchans-by rates loudness loudness2 chanmaps channels bsi-head mixdef3 mixing info bsi flags strategies hybrid offsets audfrm dynamics spx-strategy spx-coordinates cpl-strategy cpl-coordinates rematrixing bandwidth exponents parameters deltas mantissas-of-block audblk block-of blocks-of audblks body
 zeros-body = refl
 
 counted-body : counted body ≡ true
-unfolding zeros counted _⧺_ numblks-by nfchans-by rates loudness loudness2 chanmaps channels bsi-head mixdef3 mixing info bsi flags strategies hybrid offsets audfrm dynamics spx-strategy spx-coordinates cpl-strategy cpl-coordinates rematrixing bandwidth exponents parameters deltas mantissas-of-block audblk audblks body
+unfolding zeros counted _⧺_ numblks-by nfchans-by rates loudness loudness2 chanmaps channels bsi-head mixdef3 mixing info bsi flags strategies hybrid offsets audfrm dynamics spx-strategy spx-coordinates cpl-strategy cpl-coordinates rematrixing bandwidth exponents parameters deltas mantissas-of-block audblk block-of blocks-of audblks body
 counted-body = refl
 
 rejects-body : rejects body ≡ true
-unfolding rejects _⧺_ numblks-by nfchans-by rates loudness loudness2 chanmaps channels bsi-head mixdef3 mixing info bsi flags strategies hybrid offsets audfrm dynamics spx-strategy spx-coordinates cpl-strategy cpl-coordinates rematrixing bandwidth exponents parameters deltas mantissas-of-block audblk audblks body
+unfolding rejects _⧺_ numblks-by nfchans-by rates loudness loudness2 chanmaps channels bsi-head mixdef3 mixing info bsi flags strategies hybrid offsets audfrm dynamics spx-strategy spx-coordinates cpl-strategy cpl-coordinates rematrixing bandwidth exponents parameters deltas mantissas-of-block audblk block-of blocks-of audblks body
 rejects-body = refl
 
 rejects-header : rejects header ≡ true

@@ -15,7 +15,7 @@ use Rattle.walk.specs.CellNames.{CPLINU, FIRSTCPLLEAK, NUMBLKS}
 use Rattle.walk.specs.Syntax.{Block, meaning}
 use Rattle.walk.specs.Syntax.{_⧺_}
 use Rattle.annex.specs.Audblk.{dynamics, spx-strategy, spx-coordinates, cpl-strategy, cpl-coordinates, rematrixing, bandwidth, exponents, parameters, deltas, mantissas-of-block, audblk}
-use Rattle.annex.specs.Annex.{header, audblks, body}
+use Rattle.annex.specs.Annex.{header, block-of, blocks-of, audblks, body}
 use Rattle.annex.specs.Audfrm.{flags, strategies, hybrid, offsets, audfrm}
 use Rattle.annex.specs.Bsi.{numblks-by, nfchans-by, rates, loudness, loudness2, chanmaps, channels, bsi-head, mixdef3, mixing, info, bsi}
 use Rattle.eac3.specs.Frame.{start, bytesOf}
@@ -188,7 +188,7 @@ module _ (s : List ℕ) (l : ℕ) where
 
   turn-walk : (n j : ℕ) (a : State) (q : ℕ) (fs : List Entry) → j < 6 → Blocks n j a q fs
       → Walks s l Unmet (inner audblks) (kept a BLK j) q fs (Blocks n (suc j))
-  unfolding audblks inner numbered
+  unfolding block-of blocks-of audblks inner numbered
   turn-walk n j a q fs i t =
       let w = t .within in
       let m = putIn (a .cells) BLK j in
@@ -225,7 +225,7 @@ module _ (s : List ℕ) (l : ℕ) where
   Some a q fs = Unit {0}
 
   blocks-walk : (st : State) (p : ℕ) (es : List Entry) → Framed st p es → Walks s l Unmet audblks st p es Some
-  unfolding audblks passes inner
+  unfolding block-of blocks-of audblks passes inner
   blocks-walk st p es c =
       walks-next s l Unmet _ _ st p es {M = λ a q fs. Within (a .cells)} tt
       (walked-each s l Unmet BLK _ _ _ st p es (Blocks (cellOf (st .cells) NUMBLKS))

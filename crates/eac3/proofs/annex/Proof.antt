@@ -10,7 +10,7 @@ use Rattle.annex.specs.Syncinfo.{syncinfo}
 use Rattle.annex.specs.Bsi.{numblks-by, nfchans-by, rates, loudness, loudness2, chanmaps, channels, bsi-head, mixdef3, mixing, info, bsi}
 use Rattle.annex.specs.Audfrm.{flags, strategies, hybrid, offsets, audfrm}
 use Rattle.annex.specs.Audblk.{dynamics, spx-strategy, spx-coordinates, cpl-strategy, cpl-coordinates, rematrixing, bandwidth, exponents, parameters, deltas, mantissas-of-block, audblk}
-use Rattle.annex.specs.Annex.{header, audblks, body}
+use Rattle.annex.specs.Annex.{header, block-of, blocks-of, audblks, body}
 use Rattle.annex.specs.Rows.{Annexed}
 use Rattle.eac3.proofs.annex.Statement.{statement}
 use Rattle.eac3.proofs.annex.Tie as tie
@@ -22,7 +22,7 @@ joined-requires : tie.Need-joined-requires
 joined-requires c κs = search needs
 
 returns : tie.Need-returns
-unfolding rowOf condOf valueOf boundOf flat allNarrow _⧺_ syncinfo numblks-by nfchans-by rates loudness loudness2 chanmaps channels bsi-head mixdef3 mixing info bsi flags strategies hybrid offsets audfrm dynamics spx-strategy spx-coordinates cpl-strategy cpl-coordinates rematrixing bandwidth exponents parameters deltas mantissas-of-block audblk header audblks body
+unfolding rowOf condOf valueOf boundOf flat allNarrow _⧺_ syncinfo numblks-by nfchans-by rates loudness loudness2 chanmaps channels bsi-head mixdef3 mixing info bsi flags strategies hybrid offsets audfrm dynamics spx-strategy spx-coordinates cpl-strategy cpl-coordinates rematrixing bandwidth exponents parameters deltas mantissas-of-block audblk header block-of blocks-of audblks body
 returns c =
     subst Annexed (sym (c .joined .ensures))
     (record {

@@ -1,0 +1,61 @@
+use Rattle.page.proofs.Pages.{reads-more, reads-is, calms-reads, reads-runs, runs-more, runs-is, stands-first, stands-rest, stands-next, stands-guarded}
+use mathlib.Core.Path.{refl, _∙_}
+use native.Mathlib.Omega.{arith}
+use Rattle.walk.specs.Syntax.{_⧺_, size}
+use Rattle.audblk.proofs.Rounds.{marked, first-all}
+use Rattle.annex.specs.Annex.{blocks-of, audblks}
+use borrow.Author.Needs.{needs}
+use Rattle.audblk.proofs.turns.audblks.Statement.{statement}
+use Rattle.audblk.proofs.turns.audblks.Tie as tie
+use Rattle.audblk.proofs.turns.audblks.Reads as reads
+use Rattle.audblk.proofs.turns.audblks.Lts as lts
+use Rattle.audblk.proofs.turns.each_block.Reads as each-block-reads
+use Rattle.audblk.proofs.turns.mark.Reads as mark-reads
+use Rattle.page.proofs.set.Reads as set-reads
+
+each-block-requires : tie.Need-each-block-requires
+unfolding audblks size _⧺_
+each-block-requires c κs = record { stands = first-all _ blocks-of _ _ _ 628 (c .before .before .before .before .before .before .before .before .before .before .before .before .before .before .pre .stands) refl; table = c .before .before .before .before .before .before .before .before .before .before .before .before .before .before .pre .table; within = c .before .before .before .before .before .before .before .before .before .before .before .before .before .before .pre .within; held = c .before .before .before .before .before .before .before .before .before .before .before .before .before .before .pre .held; right = c .before .before .before .before .before .before .before .before .before .before .before .before .before .before .pre .right }
+
+set-requires : tie.Need-set-requires
+set-requires c κs = search needs
+
+mark-requires : tie.Need-mark-requires
+mark-requires c κs = search needs
+
+same-length : tie.Need-same-length
+same-length c = c .before .before .before .before .before .before .before .before .before .before .before .before .before .before .each-block .kept .1 .0
+
+same-length-2 : tie.Need-same-length-2
+same-length-2 c = c .before .before .before .before .before .before .before .before .before .before .before .before .before .before .each-block .kept .1 .1 .0
+
+same-length-3 : tie.Need-same-length-3
+same-length-3 c = c .before .before .before .before .before .before .before .before .before .before .before .before .before .before .each-block .kept .1 .1 .1 .0
+
+same-length-4 : tie.Need-same-length-4
+same-length-4 c = c .before .before .before .before .before .before .before .before .before .before .before .before .before .before .each-block .kept .1 .1 .1 .1 .0
+
+same-length-5 : tie.Need-same-length-5
+same-length-5 c = c .before .before .before .before .before .before .before .before .before .before .before .before .before .before .each-block .kept .1 .1 .1 .1 .1 .0
+
+same-length-6 : tie.Need-same-length-6
+same-length-6 c = c .before .before .before .before .before .before .before .before .before .before .before .before .before .before .each-block .kept .1 .1 .1 .1 .1 .1 .0
+
+returns : tie.Need-returns
+unfolding audblks _⧺_
+returns c = runs-is _ _ (runs-more _ _ (c .before .before .before .before .before .before .before .before .before .before .before .before .before .before .each-block .ensures) (runs-more _ _ (reads-runs _ _ (c .before .before .before .before .before .before .before .before .before .before .before .before .before .before .each-block .ensures .held) (c .before .before .before .before .before .before .before .before .before .before .before .before .before .before .each-block .ensures .right) (calms-reads _ _ (c .before .before .set .ensures) _ _)) (reads-runs _ _ (c .before .before .before .before .before .before .before .before .before .before .before .before .before .before .each-block .ensures .held) (c .before .before .before .before .before .before .before .before .before .before .before .before .before .before .each-block .ensures .right) (marked _ _ _ _ _ _ _ (c .mark .ensures))))) refl
+
+pub audblks-spec : {M : Type 1} → statement M
+audblks-spec =
+    tie.close
+    (tie.spec
+    each-block-requires
+    set-requires
+    mark-requires
+    same-length
+    same-length-2
+    same-length-3
+    same-length-4
+    same-length-5
+    same-length-6
+    returns)

@@ -1,0 +1,57 @@
+use Rattle.audblk.proofs.Rounds.{guarded-all, runs-on, runs-off}
+use Rattle.annex.specs.Annex.{block-of}
+use borrow.Author.Needs.{needs}
+use Rattle.audblk.proofs.turns.block.Statement.{statement}
+use Rattle.audblk.proofs.turns.block.Tie as tie
+use Rattle.audblk.proofs.turns.block.Reads as reads
+use Rattle.audblk.proofs.turns.block.Lts as lts
+use Rattle.audblk.proofs.audblk.Reads as audblk-reads
+use Rattle.audblk.proofs.turns.over.Reads as over-reads
+
+over-requires : tie.Need-over-requires
+over-requires c κs = search needs
+
+audblk-requires : tie.Need-audblk-requires
+unfolding block-of
+audblk-requires c κs = record { stands = guarded-all _ _ _ _ _ (c .before .before .before .before .before .before .before .before .before .before .before .before .before .before .before .before .before .pre .stands); table = c .before .before .before .before .before .before .before .before .before .before .before .before .before .before .before .before .before .pre .table; within = c .before .before .before .before .before .before .before .before .before .before .before .before .before .before .before .before .before .pre .within; held = c .before .before .before .before .before .before .before .before .before .before .before .before .before .before .before .before .before .pre .held; right = c .before .before .before .before .before .before .before .before .before .before .before .before .before .before .before .before .before .pre .right }
+
+same-length : tie.Need-same-length
+same-length c = search needs
+
+same-length-2 : tie.Need-same-length-2
+same-length-2 c = search needs
+
+same-length-3 : tie.Need-same-length-3
+same-length-3 c = search needs
+
+same-length-4 : tie.Need-same-length-4
+same-length-4 c = search needs
+
+same-length-5 : tie.Need-same-length-5
+same-length-5 c = search needs
+
+same-length-6 : tie.Need-same-length-6
+same-length-6 c = search needs
+
+returns : tie.Need-returns
+unfolding block-of
+returns c = runs-on _ _ _ _ _ _ _ _ (c .before .before .before .before .before .before .before .before .before .before .before .before .before .before .before .before .before .before .before .before .before .over .ensures) (c .before .before .before .before .before .before .before .before .before .before .before .before .before .before .before .before .before .before .before .before .if1 .taken) _ _ _ _ (c .before .before .before .before .before .before .before .before .before .before .audblk .ensures)
+
+returns-2 : tie.Need-returns-2
+unfolding block-of
+returns-2 c = runs-off _ _ _ _ _ _ _ _ (c .before .over .ensures) (c .if1 .left) _ (c .before .before .before .before .before .before .before .before .pre .held) (c .before .before .before .before .before .before .before .before .pre .right)
+
+pub block-spec : {M : Type 1} → statement M
+block-spec =
+    tie.close
+    (tie.spec
+    over-requires
+    audblk-requires
+    same-length
+    same-length-2
+    same-length-3
+    same-length-4
+    same-length-5
+    same-length-6
+    returns
+    returns-2)
