@@ -38,16 +38,20 @@ dynamics =
     ⨾ end
 
 -- spectral extension strategy: the sub-bands of E.2.3
-unfoldable pub spx-strategy : Block
-spx-strategy =
-    when (Is (cell BLK) 0)
-    (put (cell SPXSTRE) (Let 1 0 no)
-    ⨾ end)
-    ⨾ when (Not (cell BLK) 0)
-    (element spxstre none 1 (cell SPXSTRE)
-    ⨾ end)
-    ⨾ when (Is (cell SPXSTRE) 1)
-    (element spxinu none 1 (cell SPXINU)
+unfoldable pub no-spx-channel : Block
+no-spx-channel =
+    put (at CHINSPX CH) (Let 0 0 no)
+    ⨾ put (at FIRSTSPXCOS CH) (Let 1 0 no)
+    ⨾ end
+
+unfoldable pub no-spx : Block
+no-spx =
+    each CH (from 0) (Fixed 5) no-spx-channel
+    ⨾ end
+
+unfoldable pub spx-use : Block
+spx-use =
+    element spxinu none 1 (cell SPXINU)
     ⨾ when (Is (cell SPXINU) 1)
     (when (Is (cell ACMOD) 1)
     (put (cell CHINSPX) (Let 1 0 no)
@@ -80,13 +84,18 @@ spx-strategy =
     ⨾ end)
     ⨾ end)
     ⨾ end)
-    ⨾ when (Is (cell SPXINU) 0)
-    (each CH (from 0) (Fixed 5)
-    (put (at CHINSPX CH) (Let 0 0 no)
-    ⨾ put (at FIRSTSPXCOS CH) (Let 1 0 no)
+    ⨾ when (Is (cell SPXINU) 0) no-spx
+    ⨾ end
+
+unfoldable pub spx-strategy : Block
+spx-strategy =
+    when (Is (cell BLK) 0)
+    (put (cell SPXSTRE) (Let 1 0 no)
     ⨾ end)
+    ⨾ when (Not (cell BLK) 0)
+    (element spxstre none 1 (cell SPXSTRE)
     ⨾ end)
-    ⨾ end)
+    ⨾ when (Is (cell SPXSTRE) 1) spx-use
     ⨾ end
 
 -- spectral extension coordinates
@@ -367,6 +376,34 @@ exponents =
     ⨾ end
 
 -- bit allocation parametric information, SNR offsets, fast gains, converter SNR offset and coupling leak
+unfoldable pub bai-defaults : Block
+bai-defaults =
+    put (cell SDCYCOD) (Let 2 0 no)
+    ⨾ put (cell FDCYCOD) (Let 1 0 no)
+    ⨾ put (cell SGAINCOD) (Let 1 0 no)
+    ⨾ put (cell DBPBCOD) (Let 2 0 no)
+    ⨾ put (cell FLOORCOD) (Let 7 0 no)
+    ⨾ put (cell BAI-SENT) (Let 1 0 no)
+    ⨾ end
+
+unfoldable pub fgain-default : Block
+fgain-default =
+    put (at FGAINCOD SLOT) (Let 4 0 no)
+    ⨾ end
+
+unfoldable pub fgain-defaults : Block
+fgain-defaults =
+    each SLOT (from 0) (Fixed 7) fgain-default
+    ⨾ end
+
+unfoldable pub convsnr : Block
+convsnr =
+    element convsnroffste none 1 (cell CONVSNROFFSTE)
+    ⨾ when (Is (cell CONVSNROFFSTE) 1)
+    (element convsnroffst none 10 no
+    ⨾ end)
+    ⨾ end
+
 unfoldable pub parameters : Block
 parameters =
     when (Is (cell BAMODE) 1)
@@ -380,14 +417,7 @@ parameters =
     ⨾ put (cell BAI-SENT) (Let 1 0 no)
     ⨾ end)
     ⨾ end)
-    ⨾ when (Is (cell BAMODE) 0)
-    (put (cell SDCYCOD) (Let 2 0 no)
-    ⨾ put (cell FDCYCOD) (Let 1 0 no)
-    ⨾ put (cell SGAINCOD) (Let 1 0 no)
-    ⨾ put (cell DBPBCOD) (Let 2 0 no)
-    ⨾ put (cell FLOORCOD) (Let 7 0 no)
-    ⨾ put (cell BAI-SENT) (Let 1 0 no)
-    ⨾ end)
+    ⨾ when (Is (cell BAMODE) 0) bai-defaults
     ⨾ when (Not (cell SNROFFSTSTR) 0)
     (when (Is (cell BLK) 0)
     (put (cell SNROFFSTE) (Let 1 0 no)
@@ -433,17 +463,8 @@ parameters =
     (element lfefgaincod none 3 (cell (FGAINCOD + 6))
     ⨾ end)
     ⨾ end)
-    ⨾ when (Is (cell FGAINCODE) 0)
-    (each SLOT (from 0) (Fixed 7)
-    (put (at FGAINCOD SLOT) (Let 4 0 no)
-    ⨾ end)
-    ⨾ end)
-    ⨾ when (Is (cell STRMTYP) 0)
-    (element convsnroffste none 1 (cell CONVSNROFFSTE)
-    ⨾ when (Is (cell CONVSNROFFSTE) 1)
-    (element convsnroffst none 10 no
-    ⨾ end)
-    ⨾ end)
+    ⨾ when (Is (cell FGAINCODE) 0) fgain-defaults
+    ⨾ when (Is (cell STRMTYP) 0) convsnr
     ⨾ when (Is (cell CPLINU) 1)
     (when (Is (cell FIRSTCPLLEAK) 0)
     (element cplleake none 1 (cell CPLLEAKE)
@@ -537,6 +558,22 @@ mantissas-of-block =
     ⨾ end)
     ⨾ end
 
+unfoldable pub audblk-dynamics : Block
+audblk-dynamics =
+    dynamics ⧺ spx-strategy ⧺ spx-coordinates
+
+unfoldable pub audblk-coupling : Block
+audblk-coupling =
+    cpl-strategy ⧺ cpl-coordinates ⧺ rematrixing
+
+unfoldable pub audblk-exponents : Block
+audblk-exponents =
+    bandwidth ⧺ exponents ⧺ parameters
+
+unfoldable pub audblk-mantissas : Block
+audblk-mantissas =
+    deltas ⧺ mantissas-of-block
+
 unfoldable pub audblk : Block
 audblk =
-    dynamics ⧺ spx-strategy ⧺ spx-coordinates ⧺ cpl-strategy ⧺ cpl-coordinates ⧺ rematrixing ⧺ bandwidth ⧺ exponents ⧺ parameters ⧺ deltas ⧺ mantissas-of-block
+    audblk-dynamics ⧺ audblk-coupling ⧺ audblk-exponents ⧺ audblk-mantissas

@@ -10,29 +10,55 @@ use Rattle.walk.specs.declared.table.Value.the-variants.{Let}
 use Rattle.annex.specs.Cells.{ACMOD, AHTE, BAMODE, BLK, BLKSTRTINFOE, BLKSWE, CH, CHEXPSTR, CHINSPXATTEN, CHINTRANSPROC, CONVEXPSTRE, CPLEXPSTR, CPLINUS, CPLSTRE, DBAFLDE, DITHFLAGE, EXPSTRE, FRMFGAINCODE, FRMFSNROFFST, LFEEXPSTR, NCHREGS, NCPLBLKS, NCPLREGS, NLFEREGS, NUMBLKSCOD, SKIPFLDE, SNROFFSTSTR, SPXATTENE, STRMTYP, TRANSPROCE}
 use Rattle.walk.specs.Syntax.{_⧺_}
 
--- the flags of the frame, and the use of coupling block by block. ncplblks: E.2.4.2
-unfoldable pub flags : Block
-flags =
+unfoldable pub fresh : Block
+fresh =
     act FRESH 0
-    ⨾ when (Is (cell NUMBLKSCOD) 3)
-    (element expstre none 1 (cell EXPSTRE)
+    ⨾ end
+
+-- expstre and ahte are sent in frames of six blocks alone
+unfoldable pub expstre-sent : Block
+expstre-sent =
+    element expstre none 1 (cell EXPSTRE)
     ⨾ element ahte none 1 (cell AHTE)
-    ⨾ end)
-    ⨾ when (Not (cell NUMBLKSCOD) 3)
-    (put (cell EXPSTRE) (Let 1 0 no)
+    ⨾ end
+
+unfoldable pub expstre-known : Block
+expstre-known =
+    put (cell EXPSTRE) (Let 1 0 no)
     ⨾ put (cell AHTE) (Let 0 0 no)
-    ⨾ end)
+    ⨾ end
+
+unfoldable pub strategy-flags : Block
+strategy-flags =
+    when (Is (cell NUMBLKSCOD) 3) expstre-sent
+    ⨾ when (Not (cell NUMBLKSCOD) 3) expstre-known
     ⨾ element snroffststr none 2 (cell SNROFFSTSTR)
     ⨾ reject (Is (cell SNROFFSTSTR) 3) 7
-    ⨾ element transproce none 1 (cell TRANSPROCE)
+    ⨾ end
+
+unfoldable pub block-flags : Block
+block-flags =
+    element transproce none 1 (cell TRANSPROCE)
     ⨾ element blkswe none 1 (cell BLKSWE)
     ⨾ element dithflage none 1 (cell DITHFLAGE)
     ⨾ element bamode none 1 (cell BAMODE)
-    ⨾ element frmfgaincode none 1 (cell FRMFGAINCODE)
+    ⨾ end
+
+unfoldable pub field-flags : Block
+field-flags =
+    element frmfgaincode none 1 (cell FRMFGAINCODE)
     ⨾ element dbaflde none 1 (cell DBAFLDE)
     ⨾ element skipflde none 1 (cell SKIPFLDE)
     ⨾ element spxattene none 1 (cell SPXATTENE)
-    ⨾ when (Above (cell ACMOD) 1)
+    ⨾ end
+
+unfoldable pub frame-flags : Block
+frame-flags = block-flags ⧺ field-flags
+
+-- the use of coupling block by block
+unfoldable pub coupling-use : Block
+coupling-use =
+    when (Above (cell ACMOD) 1)
     (put (cell CPLSTRE) (Let 1 0 no)
     ⨾ element cplinu (nth 0) 1 (cell CPLINUS)
     ⨾ each BLK (from 1) (Held (cell NUMBLKS))
@@ -45,27 +71,84 @@ flags =
     ⨾ end)
     ⨾ end)
     ⨾ end)
-    ⨾ put (cell NCPLBLKS) (Let 0 0 no)
-    ⨾ each BLK (from 0) (Held (cell NUMBLKS))
-    (when (Is (at CPLINUS BLK) 1)
+    ⨾ end
+
+-- ncplblks: E.2.4.2
+unfoldable pub cplblk-counted : Block
+cplblk-counted =
+    when (Is (at CPLINUS BLK) 1)
     (put (cell NCPLBLKS) (Let 1 1 (cell NCPLBLKS))
-    ⨾ end)
     ⨾ end)
     ⨾ end
 
+unfoldable pub ncplblks-by : Block
+ncplblks-by =
+    put (cell NCPLBLKS) (Let 0 0 no)
+    ⨾ each BLK (from 0) (Held (cell NUMBLKS)) cplblk-counted
+    ⨾ end
+
+-- the flags of the frame, and the use of coupling block by block
+unfoldable pub flags : Block
+flags = fresh ⧺ strategy-flags ⧺ frame-flags ⧺ coupling-use ⧺ ncplblks-by
+
 -- exponent strategies. They come block by block, coupling first; or one code for six blocks, for coupling and for each channel (Table E.1.9)
-unfoldable pub strategies : Block
-strategies =
-    when (Is (cell EXPSTRE) 1)
-    (each BLK (from 0) (Held (cell NUMBLKS))
-    (when (Is (at CPLINUS BLK) 1)
+unfoldable pub cplexpstr-by : Block
+cplexpstr-by =
+    when (Is (at CPLINUS BLK) 1)
     (element cplexpstr (by BLK) 2 (at CPLEXPSTR BLK)
     ⨾ end)
-    ⨾ each CH (from 0) (Held (cell NFCHANS))
-    (element chexpstr (by BLK) 2 (at2 CHEXPSTR CH BLK)
+    ⨾ end
+
+unfoldable pub chexpstr-by : Block
+chexpstr-by =
+    element chexpstr (by BLK) 2 (at2 CHEXPSTR CH BLK)
+    ⨾ end
+
+unfoldable pub expstr-by : Block
+expstr-by =
+    cplexpstr-by
+    ⧺ (each CH (from 0) (Held (cell NFCHANS)) chexpstr-by
     ⨾ end)
+
+unfoldable pub block-strategies : Block
+block-strategies =
+    each BLK (from 0) (Held (cell NUMBLKS)) expstr-by
+    ⨾ end
+
+unfoldable pub lfeexpstr-by : Block
+lfeexpstr-by =
+    element lfeexpstr (by BLK) 1 (at LFEEXPSTR BLK)
+    ⨾ end
+
+unfoldable pub lfe-strategies : Block
+lfe-strategies =
+    each BLK (from 0) (Held (cell NUMBLKS)) lfeexpstr-by
+    ⨾ end
+
+unfoldable pub convexpstr-by : Block
+convexpstr-by =
+    element convexpstr (by CH) 5 no
+    ⨾ end
+
+unfoldable pub conv-codes : Block
+conv-codes =
+    each CH (from 0) (Held (cell NFCHANS)) convexpstr-by
+    ⨾ end
+
+unfoldable pub conv-strategies : Block
+conv-strategies =
+    when (Not (cell NUMBLKSCOD) 3)
+    (element convexpstre none 1 (cell CONVEXPSTRE)
     ⨾ end)
+    ⨾ when (Is (cell NUMBLKSCOD) 3)
+    (put (cell CONVEXPSTRE) (Let 1 0 no)
     ⨾ end)
+    ⨾ when (Is (cell CONVEXPSTRE) 1) conv-codes
+    ⨾ end
+
+unfoldable pub strategies : Block
+strategies =
+    when (Is (cell EXPSTRE) 1) block-strategies
     ⨾ when (Is (cell EXPSTRE) 0)
     (when (Above (cell ACMOD) 1)
     (when (Above (cell NCPLBLKS) 0)
@@ -84,24 +167,8 @@ strategies =
     ⨾ end)
     ⨾ end)
     ⨾ end)
-    ⨾ when (Is (cell LFEON) 1)
-    (each BLK (from 0) (Held (cell NUMBLKS))
-    (element lfeexpstr (by BLK) 1 (at LFEEXPSTR BLK)
-    ⨾ end)
-    ⨾ end)
-    ⨾ when (Is (cell STRMTYP) 0)
-    (when (Not (cell NUMBLKSCOD) 3)
-    (element convexpstre none 1 (cell CONVEXPSTRE)
-    ⨾ end)
-    ⨾ when (Is (cell NUMBLKSCOD) 3)
-    (put (cell CONVEXPSTRE) (Let 1 0 no)
-    ⨾ end)
-    ⨾ when (Is (cell CONVEXPSTRE) 1)
-    (each CH (from 0) (Held (cell NFCHANS))
-    (element convexpstr (by CH) 5 no
-    ⨾ end)
-    ⨾ end)
-    ⨾ end)
+    ⨾ when (Is (cell LFEON) 1) lfe-strategies
+    ⨾ when (Is (cell STRMTYP) 0) conv-strategies
     ⨾ end
 
 -- adaptive hybrid transform: the helper variables of E.2.4.2
@@ -149,16 +216,23 @@ hybrid =
     ⨾ end)
     ⨾ end
 
+-- SNR offsets of the frame, one for all slots
+unfoldable pub fsnroffst-by : Block
+fsnroffst-by =
+    put (at FSNROFFST SLOT) (Let 0 1 (cell FRMFSNROFFST))
+    ⨾ end
+
+unfoldable pub snroffsts : Block
+snroffsts =
+    element frmcsnroffst none 6 (cell CSNROFFST)
+    ⨾ element frmfsnroffst none 4 (cell FRMFSNROFFST)
+    ⨾ each SLOT (from 0) (Fixed 7) fsnroffst-by
+    ⨾ end
+
 -- SNR offsets of the frame, transient pre-noise processing, spectral extension attenuation, block start information
 unfoldable pub offsets : Block
 offsets =
-    when (Is (cell SNROFFSTSTR) 0)
-    (element frmcsnroffst none 6 (cell CSNROFFST)
-    ⨾ element frmfsnroffst none 4 (cell FRMFSNROFFST)
-    ⨾ each SLOT (from 0) (Fixed 7)
-    (put (at FSNROFFST SLOT) (Let 0 1 (cell FRMFSNROFFST))
-    ⨾ end)
-    ⨾ end)
+    when (Is (cell SNROFFSTSTR) 0) snroffsts
     ⨾ when (Is (cell TRANSPROCE) 1)
     (each CH (from 0) (Held (cell NFCHANS))
     (element chintransproc (by CH) 1 (cell CHINTRANSPROC)

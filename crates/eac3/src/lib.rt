@@ -20,6 +20,7 @@ ghost use Rattle.eac3.specs.Parts.{placed, followed, Tailed, Bodied, Siz
 use answer::Answer;
 use answer::answer_of;
 use audblk::turns::audblks;
+use audfrm::audfrm;
 use bits::BitPlace;
 use bits::ByteCount;
 use bsi::bsi;
@@ -27,7 +28,6 @@ use bsi::header;
 use frame::TailNames;
 use frame::read_tail;
 use names::numbers as n;
-use page::rows_on;
 use syntax::Cursor;
 use syntax::going;
 use syntax::halted;
@@ -131,7 +131,7 @@ fn body(
         cur,
         limit,
     );
-    let b = rows_on(
+    let b = audfrm(
         src,
         names,
         blocks,
@@ -145,8 +145,6 @@ fn body(
         memo,
         a,
         limit,
-        189,
-        294,
     );
     audblks(
         src,

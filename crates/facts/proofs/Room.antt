@@ -24,8 +24,8 @@ use Rattle.annex.specs.Cells.{SYNCWORD}
 use Rattle.walk.specs.Syntax.{_⧺_}
 use Rattle.annex.specs.Syncinfo.{syncinfo}
 use Rattle.annex.specs.Bsi.{numblks-by, nfchans-by, rates, loudness, loudness2, chanmaps, channels, bsi-head, mixdef3, mixing, info, bsi}
-use Rattle.annex.specs.Audfrm.{flags, strategies, hybrid, offsets, audfrm}
-use Rattle.annex.specs.Audblk.{dynamics, spx-strategy, spx-coordinates, cpl-strategy, cpl-coordinates, rematrixing, bandwidth, exponents, parameters, deltas, mantissas-of-block, audblk}
+use Rattle.annex.specs.Audfrm.{fresh, expstre-sent, expstre-known, strategy-flags, block-flags, field-flags, frame-flags, coupling-use, cplblk-counted, ncplblks-by, flags, cplexpstr-by, chexpstr-by, expstr-by, block-strategies, lfeexpstr-by, lfe-strategies, convexpstr-by, conv-codes, conv-strategies, strategies, hybrid, fsnroffst-by, snroffsts, offsets, audfrm}
+use Rattle.annex.specs.Audblk.{dynamics, no-spx-channel, no-spx, spx-use, spx-strategy, spx-coordinates, cpl-strategy, cpl-coordinates, rematrixing, bandwidth, exponents, bai-defaults, fgain-default, fgain-defaults, convsnr, parameters, deltas, mantissas-of-block, audblk-dynamics, audblk-coupling, audblk-exponents, audblk-mantissas, audblk}
 use Rattle.annex.specs.Annex.{header, block-of, blocks-of, audblks, body}
 use Rattle.eac3.specs.Frame.{start, tailNames, bytesOf, eac3}
 use Rattle.eac3.specs.Answer.{answered, answerBy, answerOf, numberOf}
@@ -102,15 +102,15 @@ module _ {A : Type 0} (N : TailNames) (b : List ℕ) (l : ℕ) where
 
 -- what the syntax of Annex E can make, and refuse
 zeros-body : zeros body ≡ 15
-unfolding zeros _⧺_ numblks-by nfchans-by rates loudness loudness2 chanmaps channels bsi-head mixdef3 mixing info bsi flags strategies hybrid offsets audfrm dynamics spx-strategy spx-coordinates cpl-strategy cpl-coordinates rematrixing bandwidth exponents parameters deltas mantissas-of-block audblk block-of blocks-of audblks body
+unfolding zeros _⧺_ numblks-by nfchans-by rates loudness loudness2 chanmaps channels bsi-head mixdef3 mixing info bsi fresh expstre-sent expstre-known strategy-flags block-flags field-flags frame-flags coupling-use cplblk-counted ncplblks-by flags cplexpstr-by chexpstr-by expstr-by block-strategies lfeexpstr-by lfe-strategies convexpstr-by conv-codes conv-strategies strategies hybrid fsnroffst-by snroffsts offsets audfrm dynamics no-spx-channel no-spx spx-use spx-strategy spx-coordinates cpl-strategy cpl-coordinates rematrixing bandwidth exponents bai-defaults fgain-default fgain-defaults convsnr parameters deltas mantissas-of-block audblk-dynamics audblk-coupling audblk-exponents audblk-mantissas audblk block-of blocks-of audblks body
 zeros-body = refl
 
 counted-body : counted body ≡ true
-unfolding zeros counted _⧺_ numblks-by nfchans-by rates loudness loudness2 chanmaps channels bsi-head mixdef3 mixing info bsi flags strategies hybrid offsets audfrm dynamics spx-strategy spx-coordinates cpl-strategy cpl-coordinates rematrixing bandwidth exponents parameters deltas mantissas-of-block audblk block-of blocks-of audblks body
+unfolding zeros counted _⧺_ numblks-by nfchans-by rates loudness loudness2 chanmaps channels bsi-head mixdef3 mixing info bsi fresh expstre-sent expstre-known strategy-flags block-flags field-flags frame-flags coupling-use cplblk-counted ncplblks-by flags cplexpstr-by chexpstr-by expstr-by block-strategies lfeexpstr-by lfe-strategies convexpstr-by conv-codes conv-strategies strategies hybrid fsnroffst-by snroffsts offsets audfrm dynamics no-spx-channel no-spx spx-use spx-strategy spx-coordinates cpl-strategy cpl-coordinates rematrixing bandwidth exponents bai-defaults fgain-default fgain-defaults convsnr parameters deltas mantissas-of-block audblk-dynamics audblk-coupling audblk-exponents audblk-mantissas audblk block-of blocks-of audblks body
 counted-body = refl
 
 rejects-body : rejects body ≡ true
-unfolding rejects _⧺_ numblks-by nfchans-by rates loudness loudness2 chanmaps channels bsi-head mixdef3 mixing info bsi flags strategies hybrid offsets audfrm dynamics spx-strategy spx-coordinates cpl-strategy cpl-coordinates rematrixing bandwidth exponents parameters deltas mantissas-of-block audblk block-of blocks-of audblks body
+unfolding rejects _⧺_ numblks-by nfchans-by rates loudness loudness2 chanmaps channels bsi-head mixdef3 mixing info bsi fresh expstre-sent expstre-known strategy-flags block-flags field-flags frame-flags coupling-use cplblk-counted ncplblks-by flags cplexpstr-by chexpstr-by expstr-by block-strategies lfeexpstr-by lfe-strategies convexpstr-by conv-codes conv-strategies strategies hybrid fsnroffst-by snroffsts offsets audfrm dynamics no-spx-channel no-spx spx-use spx-strategy spx-coordinates cpl-strategy cpl-coordinates rematrixing bandwidth exponents bai-defaults fgain-default fgain-defaults convsnr parameters deltas mantissas-of-block audblk-dynamics audblk-coupling audblk-exponents audblk-mantissas audblk block-of blocks-of audblks body
 rejects-body = refl
 
 rejects-header : rejects header ≡ true

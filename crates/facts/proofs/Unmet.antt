@@ -14,9 +14,9 @@ use Rattle.walk.specs.Cells.{State, cellOf, putIn, kept}
 use Rattle.walk.specs.CellNames.{CPLINU, FIRSTCPLLEAK, NUMBLKS}
 use Rattle.walk.specs.Syntax.{Block, meaning}
 use Rattle.walk.specs.Syntax.{_⧺_}
-use Rattle.annex.specs.Audblk.{dynamics, spx-strategy, spx-coordinates, cpl-strategy, cpl-coordinates, rematrixing, bandwidth, exponents, parameters, deltas, mantissas-of-block, audblk}
+use Rattle.annex.specs.Audblk.{dynamics, no-spx-channel, no-spx, spx-use, spx-strategy, spx-coordinates, cpl-strategy, cpl-coordinates, rematrixing, bandwidth, exponents, bai-defaults, fgain-default, fgain-defaults, convsnr, parameters, deltas, mantissas-of-block, audblk-dynamics, audblk-coupling, audblk-exponents, audblk-mantissas, audblk}
 use Rattle.annex.specs.Annex.{header, block-of, blocks-of, audblks, body}
-use Rattle.annex.specs.Audfrm.{flags, strategies, hybrid, offsets, audfrm}
+use Rattle.annex.specs.Audfrm.{fresh, expstre-sent, expstre-known, strategy-flags, block-flags, field-flags, frame-flags, coupling-use, cplblk-counted, ncplblks-by, flags, cplexpstr-by, chexpstr-by, expstr-by, block-strategies, lfeexpstr-by, lfe-strategies, convexpstr-by, conv-codes, conv-strategies, strategies, hybrid, fsnroffst-by, snroffsts, offsets, audfrm}
 use Rattle.annex.specs.Bsi.{numblks-by, nfchans-by, rates, loudness, loudness2, chanmaps, channels, bsi-head, mixdef3, mixing, info, bsi}
 use Rattle.eac3.specs.Frame.{start, bytesOf}
 use Rattle.annex.specs.Syncinfo.{syncinfo}
@@ -78,7 +78,7 @@ module _ (s : List ℕ) (l : ℕ) where
   sections = dynamics ∷ spx-strategy ∷ spx-coordinates ∷ cpl-strategy ∷ cpl-coordinates ∷ rematrixing ∷ bandwidth ∷ []
 
   pass-sections : allPass sections ≡ true
-  unfolding allPass sections passes steady dynamics spx-strategy spx-coordinates cpl-strategy cpl-coordinates rematrixing bandwidth
+  unfolding allPass sections passes steady dynamics no-spx-channel no-spx spx-use spx-strategy spx-coordinates cpl-strategy cpl-coordinates rematrixing bandwidth
   pass-sections = refl
 
   pass-deltas : passes (keeps firm) deltas ≡ true
@@ -164,7 +164,7 @@ module _ (s : List ℕ) (l : ℕ) where
       k
 
   block-walk : (n : ℕ) (st : State) (p : ℕ) (es : List Entry) → Going n es (st .cells) → Walks s l Unmet audblk st p es (Blocked n)
-  unfolding audblk joined sections
+  unfolding audblk-dynamics audblk-coupling audblk-exponents audblk-mantissas audblk joined sections
   block-walk n st p es g =
       pass n sections (exponents ⧺ parameters ⧺ deltas ⧺ mantissas-of-block) pass-sections st p es g (Blocked n)
       (λ a q fs g. walks-append s l Unmet exponents _ a q fs (covered s l a q fs (g .within))
@@ -263,7 +263,7 @@ module _ (s : List ℕ) (l : ℕ) where
   act-fresh x st = refl
 
   flags-walk : (st : State) (p : ℕ) (es : List Entry) → Within (st .cells) → Walks s l Unmet flags st p es Fresh
-  unfolding flags passes
+  unfolding fresh expstre-sent expstre-known strategy-flags block-flags field-flags frame-flags coupling-use cplblk-counted ncplblks-by flags passes
   flags-walk st p es w =
       walks-next s l Unmet _ _ st p es {M = Fresh} (λ e. absurd (let z : ⊥ = omega arith in z))
       (walked-act s l Unmet 3 0 st p es
@@ -291,7 +291,7 @@ module _ (s : List ℕ) (l : ℕ) where
   }
 
   offsets-walk : (st : State) (p : ℕ) (es : List Entry) → Fresh st p es → Walks s l Unmet offsets st p es Framed
-  unfolding offsets passes strung
+  unfolding fsnroffst-by snroffsts offsets passes strung
   offsets-walk st p es c =
       walks-next s l Unmet _ _ st p es {M = Framed} tt
       (walked-when s l Unmet _ _ st p es
@@ -303,7 +303,7 @@ module _ (s : List ℕ) (l : ℕ) where
       (λ a q fs d. whole s l (keeps strung) _ refl a q fs (d .within) (λ b r gs g h. framed-kept a q fs b r gs g h d))
 
   pass-strategies : passes (keeps []) strategies ≡ true
-  unfolding passes strategies
+  unfolding passes cplexpstr-by chexpstr-by expstr-by block-strategies lfeexpstr-by lfe-strategies convexpstr-by conv-codes conv-strategies strategies
   pass-strategies = refl
 
   pass-hybrid : passes (keeps []) hybrid ≡ true

@@ -1,39 +1,59 @@
+use Rattle.page.proofs.Pages.{reads-more, reads-is, calms-reads, reads-runs, runs-more, runs-is, stands-first, stands-rest, stands-next, stands-guarded}
+use mathlib.Core.Path.{refl, _∙_}
+use native.Mathlib.Omega.{arith}
+use Rattle.walk.specs.Syntax.{_⧺_, size}
+use Rattle.annex.specs.Audblk.{audblk, audblk-dynamics, audblk-coupling, audblk-exponents, audblk-mantissas, dynamics, spx-strategy, spx-coordinates, spx-use, no-spx, no-spx-channel, cpl-strategy, cpl-coordinates, rematrixing, bandwidth, exponents, parameters, bai-defaults, fgain-default, fgain-defaults, convsnr, deltas, mantissas-of-block}
 use borrow.Author.Needs.{needs}
 use Rattle.audblk.proofs.audblk.Statement.{statement}
 use Rattle.audblk.proofs.audblk.Tie as tie
-use Rattle.audblk.proofs.audblk.Reads as reads
 use Rattle.audblk.proofs.audblk.Lts as lts
-use Rattle.page.proofs.rows_on.Reads as rows-on-reads
 
-rows-on-requires : tie.Need-rows-on-requires
-rows-on-requires c κs = record { what = _; page = c .before .before .before .before .before .before .before .before .before .before .before .before .before .before .pre }
+block-dynamics-requires : tie.Need-block-dynamics-requires
+unfolding audblk audblk-dynamics audblk-coupling audblk-exponents audblk-mantissas dynamics spx-strategy spx-coordinates spx-use no-spx no-spx-channel cpl-strategy cpl-coordinates rematrixing bandwidth exponents parameters bai-defaults fgain-default fgain-defaults convsnr deltas mantissas-of-block size _⧺_
+block-dynamics-requires c κs = record { stands = stands-first _ audblk-dynamics (audblk-coupling ⧺ audblk-exponents ⧺ audblk-mantissas) _ _ (c .before .before .before .before .before .before .before .before .before .before .before .before .before .before .pre .stands); table = c .before .before .before .before .before .before .before .before .before .before .before .before .before .before .pre .table; within = c .before .before .before .before .before .before .before .before .before .before .before .before .before .before .pre .within; held = c .before .before .before .before .before .before .before .before .before .before .before .before .before .before .pre .held; right = c .before .before .before .before .before .before .before .before .before .before .before .before .before .before .pre .right }
+
+block-coupling-requires : tie.Need-block-coupling-requires
+unfolding audblk audblk-dynamics audblk-coupling audblk-exponents audblk-mantissas dynamics spx-strategy spx-coordinates spx-use no-spx no-spx-channel cpl-strategy cpl-coordinates rematrixing bandwidth exponents parameters bai-defaults fgain-default fgain-defaults convsnr deltas mantissas-of-block size _⧺_
+block-coupling-requires c κs = record { stands = stands-first _ audblk-coupling (audblk-exponents ⧺ audblk-mantissas) _ _ (stands-rest _ audblk-dynamics (audblk-coupling ⧺ audblk-exponents ⧺ audblk-mantissas) _ _ (c .before .before .before .before .before .before .before .before .before .before .before .before .before .before .before .before .before .before .before .before .before .before .before .before .before .before .before .before .before .before .before .before .before .before .pre .stands)); table = c .before .before .before .before .before .before .before .before .before .before .before .before .before .before .before .before .before .before .before .before .before .before .before .before .before .before .before .before .before .before .before .before .before .before .pre .table; within = c .before .before .before .before .before .before .before .before .before .before .before .before .before .before .before .before .before .before .before .before .before .before .before .before .before .before .before .before .before .before .before .before .before .before .pre .within; held = c .before .before .before .before .before .before .before .before .before .before .before .before .before .before .before .before .before .before .before .block-dynamics .ensures .held; right = c .before .before .before .before .before .before .before .before .before .before .before .before .before .before .before .before .before .before .before .block-dynamics .ensures .right }
+
+block-exponents-requires : tie.Need-block-exponents-requires
+unfolding audblk audblk-dynamics audblk-coupling audblk-exponents audblk-mantissas dynamics spx-strategy spx-coordinates spx-use no-spx no-spx-channel cpl-strategy cpl-coordinates rematrixing bandwidth exponents parameters bai-defaults fgain-default fgain-defaults convsnr deltas mantissas-of-block size _⧺_
+block-exponents-requires c κs = record { stands = stands-first _ audblk-exponents (audblk-mantissas) _ _ (stands-rest _ audblk-coupling (audblk-exponents ⧺ audblk-mantissas) _ _ (stands-rest _ audblk-dynamics (audblk-coupling ⧺ audblk-exponents ⧺ audblk-mantissas) _ _ (c .before .before .before .before .before .before .before .before .before .before .before .before .before .before .before .before .before .before .before .before .before .before .before .before .before .before .before .before .before .before .before .before .before .before .before .before .before .before .before .before .before .before .before .before .before .before .before .before .before .before .before .before .before .before .pre .stands))); table = c .before .before .before .before .before .before .before .before .before .before .before .before .before .before .before .before .before .before .before .before .before .before .before .before .before .before .before .before .before .before .before .before .before .before .before .before .before .before .before .before .before .before .before .before .before .before .before .before .before .before .before .before .before .before .pre .table; within = c .before .before .before .before .before .before .before .before .before .before .before .before .before .before .before .before .before .before .before .before .before .before .before .before .before .before .before .before .before .before .before .before .before .before .before .before .before .before .before .before .before .before .before .before .before .before .before .before .before .before .before .before .before .before .pre .within; held = c .before .before .before .before .before .before .before .before .before .before .before .before .before .before .before .before .before .before .before .block-coupling .ensures .held; right = c .before .before .before .before .before .before .before .before .before .before .before .before .before .before .before .before .before .before .before .block-coupling .ensures .right }
+
+block-mantissas-requires : tie.Need-block-mantissas-requires
+unfolding audblk audblk-dynamics audblk-coupling audblk-exponents audblk-mantissas dynamics spx-strategy spx-coordinates spx-use no-spx no-spx-channel cpl-strategy cpl-coordinates rematrixing bandwidth exponents parameters bai-defaults fgain-default fgain-defaults convsnr deltas mantissas-of-block size _⧺_
+block-mantissas-requires c κs = record { stands = stands-rest _ audblk-exponents (audblk-mantissas) _ _ (stands-rest _ audblk-coupling (audblk-exponents ⧺ audblk-mantissas) _ _ (stands-rest _ audblk-dynamics (audblk-coupling ⧺ audblk-exponents ⧺ audblk-mantissas) _ _ (c .before .before .before .before .before .before .before .before .before .before .before .before .before .before .before .before .before .before .before .before .before .before .before .before .before .before .before .before .before .before .before .before .before .before .before .before .before .before .before .before .before .before .before .before .before .before .before .before .before .before .before .before .before .before .before .before .before .before .before .before .before .before .before .before .before .before .before .before .before .before .before .before .before .before .pre .stands))); table = c .before .before .before .before .before .before .before .before .before .before .before .before .before .before .before .before .before .before .before .before .before .before .before .before .before .before .before .before .before .before .before .before .before .before .before .before .before .before .before .before .before .before .before .before .before .before .before .before .before .before .before .before .before .before .before .before .before .before .before .before .before .before .before .before .before .before .before .before .before .before .before .before .before .before .pre .table; within = c .before .before .before .before .before .before .before .before .before .before .before .before .before .before .before .before .before .before .before .before .before .before .before .before .before .before .before .before .before .before .before .before .before .before .before .before .before .before .before .before .before .before .before .before .before .before .before .before .before .before .before .before .before .before .before .before .before .before .before .before .before .before .before .before .before .before .before .before .before .before .before .before .before .before .pre .within; held = c .before .before .before .before .before .before .before .before .before .before .before .before .before .before .before .before .before .before .before .block-exponents .ensures .held; right = c .before .before .before .before .before .before .before .before .before .before .before .before .before .before .before .before .before .before .before .block-exponents .ensures .right }
 
 same-length : tie.Need-same-length
-same-length c = search needs
+same-length c = c .before .before .before .before .before .before .before .before .before .before .block-mantissas .kept .1 .0 ∙ c .before .before .before .before .before .before .before .before .before .before .before .before .before .before .before .before .before .before .before .before .before .before .before .before .before .before .before .before .before .before .block-exponents .kept .1 .0 ∙ c .before .before .before .before .before .before .before .before .before .before .before .before .before .before .before .before .before .before .before .before .before .before .before .before .before .before .before .before .before .before .before .before .before .before .before .before .before .before .before .before .before .before .before .before .before .before .before .before .before .before .block-coupling .kept .1 .0 ∙ c .before .before .before .before .before .before .before .before .before .before .before .before .before .before .before .before .before .before .before .before .before .before .before .before .before .before .before .before .before .before .before .before .before .before .before .before .before .before .before .before .before .before .before .before .before .before .before .before .before .before .before .before .before .before .before .before .before .before .before .before .before .before .before .before .before .before .before .before .before .before .block-dynamics .kept .1 .0
 
 same-length-2 : tie.Need-same-length-2
-same-length-2 c = search needs
+same-length-2 c = c .before .before .before .before .before .before .before .before .before .before .block-mantissas .kept .1 .1 .0 ∙ c .before .before .before .before .before .before .before .before .before .before .before .before .before .before .before .before .before .before .before .before .before .before .before .before .before .before .before .before .before .before .block-exponents .kept .1 .1 .0 ∙ c .before .before .before .before .before .before .before .before .before .before .before .before .before .before .before .before .before .before .before .before .before .before .before .before .before .before .before .before .before .before .before .before .before .before .before .before .before .before .before .before .before .before .before .before .before .before .before .before .before .before .block-coupling .kept .1 .1 .0 ∙ c .before .before .before .before .before .before .before .before .before .before .before .before .before .before .before .before .before .before .before .before .before .before .before .before .before .before .before .before .before .before .before .before .before .before .before .before .before .before .before .before .before .before .before .before .before .before .before .before .before .before .before .before .before .before .before .before .before .before .before .before .before .before .before .before .before .before .before .before .before .before .block-dynamics .kept .1 .1 .0
 
 same-length-3 : tie.Need-same-length-3
-same-length-3 c = search needs
+same-length-3 c = c .before .before .before .before .before .before .before .before .before .before .block-mantissas .kept .1 .1 .1 .0 ∙ c .before .before .before .before .before .before .before .before .before .before .before .before .before .before .before .before .before .before .before .before .before .before .before .before .before .before .before .before .before .before .block-exponents .kept .1 .1 .1 .0 ∙ c .before .before .before .before .before .before .before .before .before .before .before .before .before .before .before .before .before .before .before .before .before .before .before .before .before .before .before .before .before .before .before .before .before .before .before .before .before .before .before .before .before .before .before .before .before .before .before .before .before .before .block-coupling .kept .1 .1 .1 .0 ∙ c .before .before .before .before .before .before .before .before .before .before .before .before .before .before .before .before .before .before .before .before .before .before .before .before .before .before .before .before .before .before .before .before .before .before .before .before .before .before .before .before .before .before .before .before .before .before .before .before .before .before .before .before .before .before .before .before .before .before .before .before .before .before .before .before .before .before .before .before .before .before .block-dynamics .kept .1 .1 .1 .0
 
 same-length-4 : tie.Need-same-length-4
-same-length-4 c = search needs
+same-length-4 c = c .before .before .before .before .before .before .before .before .before .before .block-mantissas .kept .1 .1 .1 .1 .0 ∙ c .before .before .before .before .before .before .before .before .before .before .before .before .before .before .before .before .before .before .before .before .before .before .before .before .before .before .before .before .before .before .block-exponents .kept .1 .1 .1 .1 .0 ∙ c .before .before .before .before .before .before .before .before .before .before .before .before .before .before .before .before .before .before .before .before .before .before .before .before .before .before .before .before .before .before .before .before .before .before .before .before .before .before .before .before .before .before .before .before .before .before .before .before .before .before .block-coupling .kept .1 .1 .1 .1 .0 ∙ c .before .before .before .before .before .before .before .before .before .before .before .before .before .before .before .before .before .before .before .before .before .before .before .before .before .before .before .before .before .before .before .before .before .before .before .before .before .before .before .before .before .before .before .before .before .before .before .before .before .before .before .before .before .before .before .before .before .before .before .before .before .before .before .before .before .before .before .before .before .before .block-dynamics .kept .1 .1 .1 .1 .0
 
 same-length-5 : tie.Need-same-length-5
-same-length-5 c = search needs
+same-length-5 c = c .before .before .before .before .before .before .before .before .before .before .block-mantissas .kept .1 .1 .1 .1 .1 .0 ∙ c .before .before .before .before .before .before .before .before .before .before .before .before .before .before .before .before .before .before .before .before .before .before .before .before .before .before .before .before .before .before .block-exponents .kept .1 .1 .1 .1 .1 .0 ∙ c .before .before .before .before .before .before .before .before .before .before .before .before .before .before .before .before .before .before .before .before .before .before .before .before .before .before .before .before .before .before .before .before .before .before .before .before .before .before .before .before .before .before .before .before .before .before .before .before .before .before .block-coupling .kept .1 .1 .1 .1 .1 .0 ∙ c .before .before .before .before .before .before .before .before .before .before .before .before .before .before .before .before .before .before .before .before .before .before .before .before .before .before .before .before .before .before .before .before .before .before .before .before .before .before .before .before .before .before .before .before .before .before .before .before .before .before .before .before .before .before .before .before .before .before .before .before .before .before .before .before .before .before .before .before .before .before .block-dynamics .kept .1 .1 .1 .1 .1 .0
 
 same-length-6 : tie.Need-same-length-6
-same-length-6 c = search needs
+same-length-6 c = c .before .before .before .before .before .before .before .before .before .before .block-mantissas .kept .1 .1 .1 .1 .1 .1 .0 ∙ c .before .before .before .before .before .before .before .before .before .before .before .before .before .before .before .before .before .before .before .before .before .before .before .before .before .before .before .before .before .before .block-exponents .kept .1 .1 .1 .1 .1 .1 .0 ∙ c .before .before .before .before .before .before .before .before .before .before .before .before .before .before .before .before .before .before .before .before .before .before .before .before .before .before .before .before .before .before .before .before .before .before .before .before .before .before .before .before .before .before .before .before .before .before .before .before .before .before .block-coupling .kept .1 .1 .1 .1 .1 .1 .0 ∙ c .before .before .before .before .before .before .before .before .before .before .before .before .before .before .before .before .before .before .before .before .before .before .before .before .before .before .before .before .before .before .before .before .before .before .before .before .before .before .before .before .before .before .before .before .before .before .before .before .before .before .before .before .before .before .before .before .before .before .before .before .before .before .before .before .before .before .before .before .before .before .block-dynamics .kept .1 .1 .1 .1 .1 .1 .0
 
 returns : tie.Need-returns
-returns c = c .before .before .before .before .before .before .before .before .before .before .rows-on .ensures .is _ (c .before .before .before .before .before .before .before .before .before .before .before .before .before .before .before .before .before .before .before .before .before .before .before .before .before .pre .stands)
+unfolding audblk
+returns c = runs-is _ _ (runs-more _ _ (c .before .before .before .before .before .before .before .before .before .before .before .before .before .before .before .before .before .before .before .before .before .before .before .before .before .before .before .before .before .before .before .before .before .before .before .before .before .before .before .before .before .before .before .before .before .before .before .before .before .before .before .before .before .before .before .before .before .before .before .before .before .before .before .before .before .before .before .before .before .before .block-dynamics .ensures) (runs-more _ _ (c .before .before .before .before .before .before .before .before .before .before .before .before .before .before .before .before .before .before .before .before .before .before .before .before .before .before .before .before .before .before .before .before .before .before .before .before .before .before .before .before .before .before .before .before .before .before .before .before .before .before .block-coupling .ensures) (runs-more _ _ (c .before .before .before .before .before .before .before .before .before .before .before .before .before .before .before .before .before .before .before .before .before .before .before .before .before .before .before .before .before .before .block-exponents .ensures) (c .before .before .before .before .before .before .before .before .before .before .block-mantissas .ensures)))) refl
 
 pub audblk-spec : {M : Type 1} → statement M
 audblk-spec =
     tie.close
     (tie.spec
-    rows-on-requires
+    block-dynamics-requires
+    block-coupling-requires
+    block-exponents-requires
+    block-mantissas-requires
     same-length
     same-length-2
     same-length-3

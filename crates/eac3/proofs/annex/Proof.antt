@@ -8,8 +8,8 @@ use Rattle.walk.specs.Stands.{allNarrow}
 use Rattle.walk.specs.Syntax.{_⧺_}
 use Rattle.annex.specs.Syncinfo.{syncinfo}
 use Rattle.annex.specs.Bsi.{numblks-by, nfchans-by, rates, loudness, loudness2, chanmaps, channels, bsi-head, mixdef3, mixing, info, bsi}
-use Rattle.annex.specs.Audfrm.{flags, strategies, hybrid, offsets, audfrm}
-use Rattle.annex.specs.Audblk.{dynamics, spx-strategy, spx-coordinates, cpl-strategy, cpl-coordinates, rematrixing, bandwidth, exponents, parameters, deltas, mantissas-of-block, audblk}
+use Rattle.annex.specs.Audfrm.{fresh, expstre-sent, expstre-known, strategy-flags, block-flags, field-flags, frame-flags, coupling-use, cplblk-counted, ncplblks-by, flags, cplexpstr-by, chexpstr-by, expstr-by, block-strategies, lfeexpstr-by, lfe-strategies, convexpstr-by, conv-codes, conv-strategies, strategies, hybrid, fsnroffst-by, snroffsts, offsets, audfrm}
+use Rattle.annex.specs.Audblk.{dynamics, no-spx-channel, no-spx, spx-use, spx-strategy, spx-coordinates, cpl-strategy, cpl-coordinates, rematrixing, bandwidth, exponents, bai-defaults, fgain-default, fgain-defaults, convsnr, parameters, deltas, mantissas-of-block, audblk-dynamics, audblk-coupling, audblk-exponents, audblk-mantissas, audblk}
 use Rattle.annex.specs.Annex.{header, block-of, blocks-of, audblks, body}
 use Rattle.annex.specs.Rows.{Annexed}
 use Rattle.eac3.proofs.annex.Statement.{statement}
@@ -22,7 +22,7 @@ joined-requires : tie.Need-joined-requires
 joined-requires c κs = search needs
 
 returns : tie.Need-returns
-unfolding rowOf condOf valueOf boundOf flat allNarrow _⧺_ syncinfo numblks-by nfchans-by rates loudness loudness2 chanmaps channels bsi-head mixdef3 mixing info bsi flags strategies hybrid offsets audfrm dynamics spx-strategy spx-coordinates cpl-strategy cpl-coordinates rematrixing bandwidth exponents parameters deltas mantissas-of-block audblk header block-of blocks-of audblks body
+unfolding rowOf condOf valueOf boundOf flat allNarrow _⧺_ syncinfo numblks-by nfchans-by rates loudness loudness2 chanmaps channels bsi-head mixdef3 mixing info bsi fresh expstre-sent expstre-known strategy-flags block-flags field-flags frame-flags coupling-use cplblk-counted ncplblks-by flags cplexpstr-by chexpstr-by expstr-by block-strategies lfeexpstr-by lfe-strategies convexpstr-by conv-codes conv-strategies strategies hybrid fsnroffst-by snroffsts offsets audfrm dynamics no-spx-channel no-spx spx-use spx-strategy spx-coordinates cpl-strategy cpl-coordinates rematrixing bandwidth exponents bai-defaults fgain-default fgain-defaults convsnr parameters deltas mantissas-of-block audblk-dynamics audblk-coupling audblk-exponents audblk-mantissas audblk header block-of blocks-of audblks body
 returns c =
     subst Annexed (sym (c .joined .ensures))
     (record {

@@ -1,0 +1,50 @@
+use Rattle.audblk.proofs.Laws.{runs-on, runs-off}
+use borrow.Author.Needs.{needs}
+use Rattle.audblk.proofs.spx_when.Statement.{statement}
+use Rattle.audblk.proofs.spx_when.Tie as tie
+use Rattle.audblk.proofs.spx_when.Lts as lts
+
+is-requires : tie.Need-is-requires
+is-requires c κs = search needs
+
+spx-use-requires : tie.Need-spx-use-requires
+spx-use-requires c κs = search needs
+
+same-length : tie.Need-same-length
+same-length c = search needs
+
+same-length-2 : tie.Need-same-length-2
+same-length-2 c = search needs
+
+same-length-3 : tie.Need-same-length-3
+same-length-3 c = search needs
+
+same-length-4 : tie.Need-same-length-4
+same-length-4 c = search needs
+
+same-length-5 : tie.Need-same-length-5
+same-length-5 c = search needs
+
+same-length-6 : tie.Need-same-length-6
+same-length-6 c = search needs
+
+returns : tie.Need-returns
+returns c = runs-on _ _ _ _ _ _ _ _ (c .before .before .before .before .before .before .before .before .before .before .before .before .before .before .before .before .before .before .before .before .before .is .ensures) (c .before .before .before .before .before .before .before .before .before .before .before .before .before .before .before .before .before .before .before .before .if1 .taken) _ _ _ _ (c .before .before .before .before .before .before .before .before .before .before .spx-use .ensures)
+
+returns-2 : tie.Need-returns-2
+returns-2 c = runs-off _ _ _ _ _ _ _ _ (c .before .is .ensures) (c .if1 .left) _ (c .before .before .before .before .before .before .before .before .pre .held) (c .before .before .before .before .before .before .before .before .pre .right)
+
+pub spx-when-spec : {M : Type 1} → statement M
+spx-when-spec =
+    tie.close
+    (tie.spec
+    is-requires
+    spx-use-requires
+    same-length
+    same-length-2
+    same-length-3
+    same-length-4
+    same-length-5
+    same-length-6
+    returns
+    returns-2)

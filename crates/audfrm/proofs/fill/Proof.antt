@@ -1,0 +1,60 @@
+use Rattle.audfrm.proofs.Turns.{CalmTurns, calm-start, calm-on, calm-end}
+use Prim.Native.Nat.{_-_}
+use mathlib.Core.Path.{refl, _∙_}
+use native.Mathlib.Omega.{arith}
+use Rattle.annex.specs.Audfrm.{fsnroffst-by}
+use Rattle.walk.specs.Syntax.{from}
+use Rattle.walk.specs.declared.table.Count.the-variants.{Fixed}
+use Rattle.audfrm.proofs.Turns.{from-0}
+use borrow.Author.Needs.{needs}
+use Rattle.audfrm.proofs.fill.Statement.{statement}
+use Rattle.audfrm.proofs.fill.Tie as tie
+use Rattle.audfrm.proofs.fill.Reads as reads
+use Rattle.audfrm.proofs.fill.Lts as lts
+use Rattle.audfrm.proofs.fine.Reads as fine-reads
+use Rattle.walk.proofs.cells.put.Reads as put-reads
+
+abbrev Inv-loop : tie.InvT-loop
+Inv-loop cells₀ j₀ cells j = CalmTurns 0 7 6 fsnroffst-by cells₀ cells j
+
+abbrev μ-loop : tie.MeasureT-loop
+μ-loop cells₀ j₀ cells j = 7 - j
+
+loop-holds : tie.Need-loop-holds Inv-loop μ-loop
+loop-holds c = calm-start _ _ _ _ _
+
+cast-put : tie.Need-cast-put Inv-loop μ-loop
+cast-put c = search needs
+
+put-requires : tie.Need-put-requires Inv-loop μ-loop
+put-requires c κs = search needs
+
+fine-requires : tie.Need-fine-requires Inv-loop μ-loop
+fine-requires c κs = search needs
+
+add-j : tie.Need-add-j Inv-loop μ-loop
+add-j c = search needs
+
+loop-less : tie.Need-loop-less Inv-loop μ-loop
+loop-less c = omega (arith, c .before .before .before .before .loop-test .taken)
+
+loop-again : tie.Need-loop-again Inv-loop μ-loop
+loop-again c = calm-on _ _ _ _ _ _ _ (c .before .before .before .before .before .loop .inv) (c .before .before .before .before .loop-test .taken) _ (c .before .before .put .ensures) _ (c .fine .ensures)
+
+returns : tie.Need-returns Inv-loop μ-loop
+returns c = calm-end _ _ _ _ _ _ _ (c .before .loop .inv) (c .loop-test .left) (from 0) (Fixed 7) (from-0 _) refl
+
+pub fill-spec : {M : Type 1} → statement M
+fill-spec =
+    tie.close
+    (tie.spec
+    Inv-loop
+    μ-loop
+    loop-holds
+    cast-put
+    put-requires
+    fine-requires
+    add-j
+    loop-less
+    loop-again
+    returns)

@@ -1,0 +1,70 @@
+use Prim.Native.Nat.{_+_, _*_}
+use mathlib.Core.Path.{ap, ap₂, _∙_, refl}
+use native.Mathlib.Omega.{arith}
+use Rattle.walk.specs.Syntax.{by, at, at2, no}
+use Rattle.audfrm.proofs.Turns.{place-at}
+use Rattle.annex.specs.Cells.{BLK, CH, CHEXPSTR, CPLEXPSTR, LFEEXPSTR}
+use Rattle.annex.specs.Audfrm.{lfeexpstr-by}
+use borrow.Author.Needs.{needs}
+use Rattle.audfrm.proofs.lfeexpstr.Statement.{statement}
+use Rattle.audfrm.proofs.lfeexpstr.Tie as tie
+use Rattle.audfrm.proofs.lfeexpstr.Reads as reads
+use Rattle.audfrm.proofs.lfeexpstr.Lts as lts
+
+cell-of-requires : tie.Need-cell-of-requires
+cell-of-requires c κs = search needs
+
+cast-index : tie.Need-cast-index
+cast-index c = search needs
+
+add-index : tie.Need-add-index
+add-index c = search needs
+
+cast-k : tie.Need-cast-k
+cast-k c = search needs
+
+add-k : tie.Need-add-k
+add-k c = search needs
+
+element-requires : tie.Need-element-requires
+element-requires c κs = (omega arith, c .before .before .before .before .before .before .before .before .before .before .before .before .before .before .pre)
+
+same-length : tie.Need-same-length
+same-length c = search needs
+
+same-length-2 : tie.Need-same-length-2
+same-length-2 c = search needs
+
+same-length-3 : tie.Need-same-length-3
+same-length-3 c = search needs
+
+same-length-4 : tie.Need-same-length-4
+same-length-4 c = search needs
+
+same-length-5 : tie.Need-same-length-5
+same-length-5 c = search needs
+
+same-length-6 : tie.Need-same-length-6
+same-length-6 c = search needs
+
+returns : tie.Need-returns
+unfolding lfeexpstr-by
+returns c = c .before .before .before .before .before .before .before .before .before .before .element .ensures .is (by BLK) (at LFEEXPSTR BLK) (ap (λ x. 1 + x) (c .before .before .before .before .before .before .before .before .before .before .before .before .before .before .before .before .before .before .cell-of .ensures)) (ap (λ x. LFEEXPSTR + x) (c .before .before .before .before .before .before .before .before .before .before .before .before .before .before .before .before .before .before .cell-of .ensures) ∙ place-at _ _ _)
+
+pub lfeexpstr-spec : {M : Type 1} → statement M
+lfeexpstr-spec =
+    tie.close
+    (tie.spec
+    cell-of-requires
+    cast-index
+    add-index
+    cast-k
+    add-k
+    element-requires
+    same-length
+    same-length-2
+    same-length-3
+    same-length-4
+    same-length-5
+    same-length-6
+    returns)

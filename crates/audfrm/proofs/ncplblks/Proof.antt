@@ -1,0 +1,23 @@
+use Rattle.page.proofs.Pages.{calms-more}
+use Rattle.walk.specs.Syntax.{_⧺_}
+use Rattle.annex.specs.Audfrm.{ncplblks-by}
+use borrow.Author.Needs.{needs}
+use Rattle.audfrm.proofs.ncplblks.Statement.{statement}
+use Rattle.audfrm.proofs.ncplblks.Tie as tie
+use Rattle.audfrm.proofs.ncplblks.Reads as reads
+use Rattle.audfrm.proofs.ncplblks.Lts as lts
+use Rattle.audfrm.proofs.cplblks.Reads as cplblks-reads
+use Rattle.page.proofs.set.Reads as set-reads
+
+set-requires : tie.Need-set-requires
+set-requires c κs = search needs
+
+cplblks-requires : tie.Need-cplblks-requires
+cplblks-requires c κs = search needs
+
+returns : tie.Need-returns
+unfolding ncplblks-by _⧺_
+returns c = calms-more (c .before .before .set .ensures) (c .cplblks .ensures)
+
+pub ncplblks-spec : {M : Type 1} → statement M
+ncplblks-spec = tie.close (tie.spec set-requires cplblks-requires returns)
