@@ -164,7 +164,7 @@ module _ (s : List ℕ) (l : ℕ) where
       k
 
   block-walk : (n : ℕ) (st : State) (p : ℕ) (es : List Entry) → Going n es (st .cells) → Walks s l Unmet audblk st p es (Blocked n)
-  unfolding audblk-dynamics audblk-coupling audblk-exponents audblk-mantissas audblk joined sections
+  unfolding audblk-dynamics audblk-coupling audblk-exponents audblk-mantissas audblk joined sections _⧺_ dynamics no-spx-channel no-spx spx-use spx-strategy spx-coordinates cpl-strategy cpl-coordinates rematrixing bandwidth exponents bai-defaults fgain-default fgain-defaults convsnr parameters deltas mantissas-of-block
   block-walk n st p es g =
       pass n sections (exponents ⧺ parameters ⧺ deltas ⧺ mantissas-of-block) pass-sections st p es g (Blocked n)
       (λ a q fs g. walks-append s l Unmet exponents _ a q fs (covered s l a q fs (g .within))
@@ -188,7 +188,7 @@ module _ (s : List ℕ) (l : ℕ) where
 
   turn-walk : (n j : ℕ) (a : State) (q : ℕ) (fs : List Entry) → j < 6 → Blocks n j a q fs
       → Walks s l Unmet (inner audblks) (kept a BLK j) q fs (Blocks n (suc j))
-  unfolding block-of blocks-of audblks inner numbered
+  unfolding block-of blocks-of audblks inner numbered _⧺_
   turn-walk n j a q fs i t =
       let w = t .within in
       let m = putIn (a .cells) BLK j in
@@ -225,7 +225,7 @@ module _ (s : List ℕ) (l : ℕ) where
   Some a q fs = Unit {0}
 
   blocks-walk : (st : State) (p : ℕ) (es : List Entry) → Framed st p es → Walks s l Unmet audblks st p es Some
-  unfolding block-of blocks-of audblks passes inner
+  unfolding block-of blocks-of audblks passes inner _⧺_
   blocks-walk st p es c =
       walks-next s l Unmet _ _ st p es {M = λ a q fs. Within (a .cells)} tt
       (walked-each s l Unmet BLK _ _ _ st p es (Blocks (cellOf (st .cells) NUMBLKS))
@@ -263,7 +263,7 @@ module _ (s : List ℕ) (l : ℕ) where
   act-fresh x st = refl
 
   flags-walk : (st : State) (p : ℕ) (es : List Entry) → Within (st .cells) → Walks s l Unmet flags st p es Fresh
-  unfolding fresh expstre-sent expstre-known strategy-flags block-flags field-flags frame-flags coupling-use cplblk-counted ncplblks-by flags passes
+  unfolding fresh expstre-sent expstre-known strategy-flags block-flags field-flags frame-flags coupling-use cplblk-counted ncplblks-by flags passes _⧺_
   flags-walk st p es w =
       walks-next s l Unmet _ _ st p es {M = Fresh} (λ e. absurd (let z : ⊥ = omega arith in z))
       (walked-act s l Unmet 3 0 st p es
@@ -291,7 +291,7 @@ module _ (s : List ℕ) (l : ℕ) where
   }
 
   offsets-walk : (st : State) (p : ℕ) (es : List Entry) → Fresh st p es → Walks s l Unmet offsets st p es Framed
-  unfolding fsnroffst-by snroffsts offsets passes strung
+  unfolding fsnroffst-by snroffsts offsets passes strung _⧺_
   offsets-walk st p es c =
       walks-next s l Unmet _ _ st p es {M = Framed} tt
       (walked-when s l Unmet _ _ st p es
@@ -303,7 +303,7 @@ module _ (s : List ℕ) (l : ℕ) where
       (λ a q fs d. whole s l (keeps strung) _ refl a q fs (d .within) (λ b r gs g h. framed-kept a q fs b r gs g h d))
 
   pass-strategies : passes (keeps []) strategies ≡ true
-  unfolding passes cplexpstr-by chexpstr-by expstr-by block-strategies lfeexpstr-by lfe-strategies convexpstr-by conv-codes conv-strategies strategies
+  unfolding passes cplexpstr-by chexpstr-by expstr-by block-strategies lfeexpstr-by lfe-strategies convexpstr-by conv-codes conv-strategies strategies _⧺_
   pass-strategies = refl
 
   pass-hybrid : passes (keeps []) hybrid ≡ true
