@@ -1,10 +1,11 @@
 -- Parts of a page, one after another. Assumes nothing.
 use mathlib.Core.Bool.{Bool, true, false, cond}
-use mathlib.Core.List.{List}
+use mathlib.Core.List.{List, map}
 use mathlib.Core.Path.{_≡_, refl, sym, ap, subst, _∙_}
 use Prim.Native.Nat.{ℕ, _+_, _-_, _*_, _≤_, _<_}
 use native.Mathlib.Omega.{arith}
-use lib.ListN.{length}
+use lib.ListN.{length, drop}
+use lib.Seq.{drop-drop}
 use Rattle.reading.specs.Tree.{Tree, done, _>>=_}
 use Rattle.reading.specs.Run.{accepted, refused}
 use Rattle.reading.specs.Room.{Room, Out, got, exec}
@@ -16,39 +17,25 @@ use Rattle.blocks.specs.Held.{Held}
 use Rattle.blocks.specs.Memo.{Memo}
 use Rattle.walk.specs.Cells.{State, state, cellOf, putIn, placeOf, heldOf, kept, sumOf}
 use Rattle.walk.specs.Rows.{holdsOf, countOf}
-use Rattle.walk.specs.Stands.{Ran}
-use Rattle.walk.specs.Syntax.{Block, put, when, each, end, _⨾_, meaning, turns, from}
+use Rattle.walk.specs.Rows.{rowOf}
+use Rattle.walk.specs.Stands.{Stands}
+use Rattle.walk.specs.Syntax.{Block, put, when, each, end, _⨾_, _⧺_, meaning, turns, flat, size, from}
 use Rattle.walk.specs.declared.cells.Addr.{Addr}
+use Rattle.walk.specs.declared.cells.Sum.{Sum}
 use Rattle.walk.specs.declared.table.Cond.{Cond}
 use Rattle.walk.specs.declared.table.Count.{Count}
-use Rattle.walk.specs.declared.table.Value.the-variants.{Here, Let, Plus}
+use Rattle.walk.specs.declared.table.Value.the-variants.{Here, Let}
 use Rattle.walk.proofs.Settling.{turning, turns-more, turns-none}
+use Rattle.walk.proofs.Blocks.{size-append}
 use Rattle.walk.proofs.Walks.{Same}
 use Rattle.page.specs.Page.{Reads, Runs, Calms}
-use Rattle.page.proofs.Pages.{after-stopped, after-live, when-on, when-off}
-use Rattle.audblk.specs.Parts.{Parted, Marks}
-
--- the rows of a part
-pub parted-stopped : (s : List ℕ) (l : ℕ) (t : List ℕ) (from to : ℕ) (c : Cursor) (st : State) (z : Room) (mem : List ℕ) → Held (st .bins) → Memo mem (st .bins) → c .stopped ≡ true
-    → Parted s l t from to c st z c st z mem
-parted-stopped s l t from to c st z mem hh hr h = record { is = λ b k. record { is = after-stopped s l b c st z h; held = hh; right = hr }; held = hh; right = hr }
-
-pub parted-live : (s : List ℕ) (l : ℕ) (t : List ℕ) (from to : ℕ) (c : Cursor) (st : State) (z : Room) → c .stopped ≡ false
-    → (c′ : Cursor) (st′ : State) (z′ : Room) (mem′ : List ℕ) → Ran s l t from to c st z c′ st′ z′ mem′ → Parted s l t from to c st z c′ st′ z′ mem′
-parted-live s l t from to c st z h c′ st′ z′ mem′ r = record {
-  is = λ b k. record { is = after-live s l b c st z _ h (r .runs b k); held = r .held; right = r .right };
-  held = r .held;
-  right = r .right;
-}
+use Rattle.page.proofs.Pages.{when-on, when-off, stands-first, stands-guarded}
+use Rattle.audblk.specs.Parts.{Marks}
 
 -- a value put into a cell
 pub let-calms : (a : Addr) (x y : ℕ) (b : Addr) (m m′ : List ℕ) (k v : ℕ) → k ≡ placeOf a m → v ≡ x + y * heldOf b m → m′ ≡ putIn m k v → Calms (put a (Let x y b) ⨾ end) m m′
 unfolding exec meaning _>>=_
 let-calms a x y b m m′ k v ek ev e = record { is = λ bins s l p n z. rw (e, ev, ek) refl }
-
-pub plus-calms : (a b : Addr) (m m′ : List ℕ) (k v : ℕ) → k ≡ placeOf a m → v ≡ cellOf m k + heldOf b m → m′ ≡ putIn m k v → Calms (put a (Plus b) ⨾ end) m m′
-unfolding exec meaning _>>=_
-plus-calms a b m m′ k v ek ev e = record { is = λ bins s l p n z. rw (e, ev, ek) refl }
 
 pub here-marks : (a : Addr) (c : Cursor) (m m′ : List ℕ) (k : ℕ) → k ≡ placeOf a m → m′ ≡ putIn m k (c .at .0) → Marks a c m m′
 unfolding exec meaning _>>=_
@@ -150,3 +137,21 @@ module _ (s : List ℕ) (l : ℕ) (b : Block) (q : Cond) (c : Cursor) (st : Stat
 
   pub runs-off : (on : Bool) → on ≡ holdsOf q (st .cells) → on ≡ false → (mem : List ℕ) → Held (st .bins) → Memo mem (st .bins) → Runs s l (when q b ⨾ end) c st z c st z mem
   runs-off on e h mem hh hr = record { is = when-off s l b q c st z (sym e ∙ h); held = hh; right = hr }
+
+-- where a block stands that is all that a condition guards, or a loop repeats
+module _ (t : List ℕ) (a : Block) (at to : ℕ) where
+  pub guarded-all : (q : Cond) → Stands t (when q a ⨾ end) at to → Stands t a (at + 1) to
+  unfolding size
+  guarded-all q h = let e : at + 1 + size a ≡ to = omega (arith, h .ends) in subst (λ (x : ℕ). Stands t a (at + 1) x) e (stands-guarded t q a end at to h)
+
+  pub repeated-all : (k : ℕ) (i : Sum) (n : Count) → Stands t (each k i n a ⨾ end) at to → Stands t a (at + 1) to
+  unfolding flat
+  repeated-all k i n h = record {
+    rows = sym (drop-drop 1 at (map rowOf t)) ∙ ap (drop 1) (h .rows);
+    ends = omega (arith, h .ends);
+    room = h .room;
+  }
+
+  -- and one that others follow
+  pub first-all : (b : Block) (n : ℕ) → Stands t (a ⧺ b) at to → n + size b ≡ to → Stands t a at n
+  first-all b n h e = let f : at + size a ≡ n = omega (arith, h .ends, size-append a b) in subst (λ (x : ℕ). Stands t a at x) f (stands-first t a b at to h)

@@ -12,7 +12,7 @@ ghost use Rattle.walk.specs.declared.table.Value.the-variants.{Let};
 ghost use Rattle.annex.specs.Audblk.{audblk-dynamics, audblk-coupling, audblk-exponents, audblk-mantissas, no-spx-channel, no-spx as no-spx-of, spx-use, dynamics as dynamicsOf, spx-strategy, spx-coordinates, cpl-strategy, cpl-coordinates, rematrixing as rematrixingOf, bandwidth as bandwidthOf, exponents as exponentsOf, parameters as parametersOf, deltas as deltasOf, mantissas-of-block, audblk as audblkOf};
 ghost use Rattle.annex.specs.Cells.{SPXINU, SPXSTRE};
 ghost use Rattle.page.specs.Page.{Runs, Calms, Page, Paged};
-ghost use Rattle.audblk.specs.Parts.{Parted, Marks};
+ghost use Rattle.audblk.specs.Parts.{Marks};
 use annex::cells as c;
 use bits::BitPlace;
 use names::numbers as n;
@@ -20,6 +20,7 @@ use page::is;
 use page::is_not;
 use page::plain;
 use page::plain_when;
+use page::rows_on;
 use page::rows_when;
 use page::set_by;
 use page::set_when;
@@ -28,7 +29,6 @@ use walk::cells::Addr;
 use walk::cells::held;
 use walk::cells::place;
 use walk::cells::put;
-use walk::rows;
 
 // A condition on a cell of an array.
 fn is_at(cells: &[u16; 640], a: Addr, v: u16) -> bool
@@ -60,50 +60,6 @@ fn mark(cells: &mut [u16; 640], cur: Cursor, a: Addr)
 {
     let k = place(a, cells);
     put(cells, k, cur.at.0 as u32);
-}
-
-// The rows of a part.
-fn part(
-    src: &[u8],
-    names: &mut [u8],
-    blocks: &mut [i8],
-    indexes: &mut [i16],
-    firsts: &mut [u16],
-    widths: &mut [u16],
-    values: &mut [u32],
-    table: &[u64; 640],
-    cells: &mut [u16; 640],
-    bins: &mut [u8; 3584],
-    memo: &mut [u8; 2128],
-    cur: Cursor,
-    limit: BitPlace,
-    from: usize,
-    to: usize,
-) -> Cursor
-    requires { ⌜ Paged (now src) (limit .0) (now table) (now bins) (now memo) from to ⌝ }
-    ensures { λ r. ⌜ Parted (now (src .entry)) (limit .0) (now (table .entry)) from to cur (state (now (cells .entry)) (now (bins .entry))) (room (now (names .entry)) (now (blocks .entry)) (now (indexes .entry)) (now (firsts .entry)) (now (widths .entry)) (now (values .entry)))
-        r (state (now (cells .exit)) (now (bins .exit))) (room (now (names .exit)) (now (blocks .exit)) (now (indexes .exit)) (now (firsts .exit)) (now (widths .exit)) (now (values .exit))) (now (memo .exit)) ⌝ }
-{
-    if cur.stopped {
-        return cur;
-    }
-    rows(
-        src,
-        names,
-        blocks,
-        indexes,
-        firsts,
-        widths,
-        values,
-        table,
-        cells,
-        bins,
-        memo,
-        cur,
-        limit,
-        from,
-        to,
-    )
 }
 
 // Block switch, dither and dynamic range control.
@@ -641,7 +597,7 @@ fn bandwidth(
     ensures { λ r. ⌜ Runs (now (src .entry)) (limit .0) bandwidthOf cur (state (now (cells .entry)) (now (bins .entry))) (room (now (names .entry)) (now (blocks .entry)) (now (indexes .entry)) (now (firsts .entry)) (now (widths .entry)) (now (values .entry)))
         r (state (now (cells .exit)) (now (bins .exit))) (room (now (names .exit)) (now (blocks .exit)) (now (indexes .exit)) (now (firsts .exit)) (now (widths .exit)) (now (values .exit))) (now (memo .exit)) ⌝ }
 {
-    part(
+    rows_on(
         src,
         names,
         blocks,
@@ -680,7 +636,7 @@ fn exponents(
     ensures { λ r. ⌜ Runs (now (src .entry)) (limit .0) exponentsOf cur (state (now (cells .entry)) (now (bins .entry))) (room (now (names .entry)) (now (blocks .entry)) (now (indexes .entry)) (now (firsts .entry)) (now (widths .entry)) (now (values .entry)))
         r (state (now (cells .exit)) (now (bins .exit))) (room (now (names .exit)) (now (blocks .exit)) (now (indexes .exit)) (now (firsts .exit)) (now (widths .exit)) (now (values .exit))) (now (memo .exit)) ⌝ }
 {
-    part(
+    rows_on(
         src,
         names,
         blocks,
@@ -719,7 +675,7 @@ fn parameters(
     ensures { λ r. ⌜ Runs (now (src .entry)) (limit .0) parametersOf cur (state (now (cells .entry)) (now (bins .entry))) (room (now (names .entry)) (now (blocks .entry)) (now (indexes .entry)) (now (firsts .entry)) (now (widths .entry)) (now (values .entry)))
         r (state (now (cells .exit)) (now (bins .exit))) (room (now (names .exit)) (now (blocks .exit)) (now (indexes .exit)) (now (firsts .exit)) (now (widths .exit)) (now (values .exit))) (now (memo .exit)) ⌝ }
 {
-    part(
+    rows_on(
         src,
         names,
         blocks,
@@ -818,7 +774,7 @@ fn mantissas(
     ensures { λ r. ⌜ Runs (now (src .entry)) (limit .0) mantissas-of-block cur (state (now (cells .entry)) (now (bins .entry))) (room (now (names .entry)) (now (blocks .entry)) (now (indexes .entry)) (now (firsts .entry)) (now (widths .entry)) (now (values .entry)))
         r (state (now (cells .exit)) (now (bins .exit))) (room (now (names .exit)) (now (blocks .exit)) (now (indexes .exit)) (now (firsts .exit)) (now (widths .exit)) (now (values .exit))) (now (memo .exit)) ⌝ }
 {
-    part(
+    rows_on(
         src,
         names,
         blocks,

@@ -1,17 +1,19 @@
 // The blocks of a frame, one after another (specs/Annex of crate annex).
 ghost use mathlib.Core.Path.{_≡_};
 ghost use Rattle.reading.specs.Room.{room};
-ghost use Rattle.walk.specs.Cells.{state, putIn};
+ghost use Rattle.walk.specs.Cells.{state};
 ghost use Rattle.walk.specs.Rows.{holdsOf};
 ghost use Rattle.walk.specs.Syntax.{cell};
 ghost use Rattle.walk.specs.declared.table.Cond.the-variants.{Over};
 ghost use Rattle.annex.specs.Annex.{block-of, blocks-of, audblks as audblksOf};
 ghost use Rattle.page.specs.Page.{Page, Runs};
 use crate::audblk;
+use crate::mark;
 use annex::cells as c;
 use bits::BitPlace;
 use page::set;
 use syntax::Cursor;
+use walk::cells::Addr;
 use walk::cells::cell_of;
 use walk::cells::put;
 
@@ -20,13 +22,6 @@ fn over(cells: &[u16; 640], k: usize, j: usize) -> bool
     ensures { λ r. ⌜ r ≡ holdsOf (Over (cell k) (cell j)) (now (cells .entry)) ⌝ }
 {
     cell_of(cells, j) < cell_of(cells, k)
-}
-
-// A bit place put into a cell.
-fn mark(cells: &mut [u16; 640], k: usize, at: BitPlace)
-    ensures { λ _. ⌜ now (cells .exit) ≡ putIn (now (cells .entry)) k (at .0) ⌝ }
-{
-    put(cells, k, at.0 as u32);
 }
 
 // The block at hand, if the frame has it.
@@ -149,6 +144,14 @@ pub fn audblks(
         limit,
     );
     set(cells, c::BLOCK as usize, 0);
-    mark(cells, c::AUDIO_END as usize, end.at);
+    mark(
+        cells,
+        end,
+        Addr {
+            base: c::AUDIO_END as u16,
+            by: 0,
+            row: 0,
+        },
+    );
     end
 }

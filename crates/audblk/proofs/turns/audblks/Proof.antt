@@ -2,15 +2,15 @@ use Rattle.page.proofs.Pages.{reads-more, reads-is, calms-reads, reads-runs, ru
 use mathlib.Core.Path.{refl, _∙_}
 use native.Mathlib.Omega.{arith}
 use Rattle.walk.specs.Syntax.{_⧺_, size}
-use Rattle.audblk.proofs.Rounds.{marked, first-all}
+use Rattle.audblk.proofs.Laws.{first-all}
 use Rattle.annex.specs.Annex.{blocks-of, audblks}
 use borrow.Author.Needs.{needs}
 use Rattle.audblk.proofs.turns.audblks.Statement.{statement}
 use Rattle.audblk.proofs.turns.audblks.Tie as tie
 use Rattle.audblk.proofs.turns.audblks.Reads as reads
 use Rattle.audblk.proofs.turns.audblks.Lts as lts
+use Rattle.audblk.proofs.mark.Reads as mark-reads
 use Rattle.audblk.proofs.turns.each_block.Reads as each-block-reads
-use Rattle.audblk.proofs.turns.mark.Reads as mark-reads
 use Rattle.page.proofs.set.Reads as set-reads
 
 each-block-requires : tie.Need-each-block-requires
@@ -19,6 +19,9 @@ each-block-requires c κs = record { stands = first-all _ blocks-of _ _ _ 628 (c
 
 set-requires : tie.Need-set-requires
 set-requires c κs = search needs
+
+cast-t34 : tie.Need-cast-t34
+cast-t34 c = search needs
 
 mark-requires : tie.Need-mark-requires
 mark-requires c κs = search needs
@@ -43,7 +46,7 @@ same-length-6 c = c .before .before .before .before .before .before .before .bef
 
 returns : tie.Need-returns
 unfolding audblks _⧺_
-returns c = runs-is _ _ (runs-more _ _ (c .before .before .before .before .before .before .before .before .before .before .before .before .before .before .each-block .ensures) (runs-more _ _ (reads-runs _ _ (c .before .before .before .before .before .before .before .before .before .before .before .before .before .before .each-block .ensures .held) (c .before .before .before .before .before .before .before .before .before .before .before .before .before .before .each-block .ensures .right) (calms-reads _ _ (c .before .before .set .ensures) _ _)) (reads-runs _ _ (c .before .before .before .before .before .before .before .before .before .before .before .before .before .before .each-block .ensures .held) (c .before .before .before .before .before .before .before .before .before .before .before .before .before .before .each-block .ensures .right) (marked _ _ _ _ _ _ _ (c .mark .ensures))))) refl
+returns c = runs-is _ _ (runs-more _ _ (c .before .before .before .before .before .before .before .before .before .before .before .before .before .before .each-block .ensures) (runs-more _ _ (reads-runs _ _ (c .before .before .before .before .before .before .before .before .before .before .before .before .before .before .each-block .ensures .held) (c .before .before .before .before .before .before .before .before .before .before .before .before .before .before .each-block .ensures .right) (calms-reads _ _ (c .before .before .set .ensures) _ _)) (reads-runs _ _ (c .before .before .before .before .before .before .before .before .before .before .before .before .before .before .each-block .ensures .held) (c .before .before .before .before .before .before .before .before .before .before .before .before .before .before .each-block .ensures .right) (c .mark .ensures .is _ _ _)))) refl
 
 pub audblks-spec : {M : Type 1} → statement M
 audblks-spec =
@@ -51,6 +54,7 @@ audblks-spec =
     (tie.spec
     each-block-requires
     set-requires
+    cast-t34
     mark-requires
     same-length
     same-length-2

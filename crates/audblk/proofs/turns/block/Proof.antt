@@ -1,4 +1,4 @@
-use Rattle.audblk.proofs.Rounds.{guarded-all, runs-on, runs-off}
+use Rattle.audblk.proofs.Laws.{guarded-all, runs-on, runs-off}
 use Rattle.annex.specs.Annex.{block-of}
 use borrow.Author.Needs.{needs}
 use Rattle.audblk.proofs.turns.block.Statement.{statement}

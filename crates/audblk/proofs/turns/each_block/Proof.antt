@@ -1,4 +1,5 @@
-use Rattle.audblk.proofs.Rounds.{Rounds, rounds-start, rounds-more, rounds-end, repeated-all}
+use mathlib.Core.Path.{refl}
+use Rattle.audblk.proofs.Laws.{RunInv, run-start, run-on, run-end, repeated-all}
 use native.Mathlib.Omega.{arith}
 use Prim.Native.Nat.{_-_}
 use Rattle.annex.specs.Annex.{block-of, blocks-of}
@@ -14,13 +15,13 @@ use Rattle.walk.proofs.cells.put.Reads as put-reads
 
 abbrev Inv-loop : tie.InvT-loop
 Inv-loop src names₀ blocks₀ indexes₀ firsts₀ widths₀ values₀ table cells₀ bins₀ memo₀ limit at₀ blk₀ names blocks indexes firsts widths values cells bins memo at blk =
-    Rounds src (limit .0) 2 6 block-of at₀ (state cells₀ bins₀) (room names₀ blocks₀ indexes₀ firsts₀ widths₀ values₀) at (state cells bins) (room names blocks indexes firsts widths values) memo blk
+    RunInv src (limit .0) block-of 6 2 at₀ (state cells₀ bins₀) (room names₀ blocks₀ indexes₀ firsts₀ widths₀ values₀) at (state cells bins) (room names blocks indexes firsts widths values) memo blk
 
 abbrev μ-loop : tie.MeasureT-loop
 μ-loop src names₀ blocks₀ indexes₀ firsts₀ widths₀ values₀ table cells₀ bins₀ memo₀ limit at₀ blk₀ names blocks indexes firsts widths values cells bins memo at blk = 6 - blk
 
 loop-holds : tie.Need-loop-holds Inv-loop μ-loop
-loop-holds c = rounds-start _ _ _ _ _ _ _ _ _ (c .before .before .before .before .before .pre .held) (c .before .before .before .before .before .pre .right)
+loop-holds c = run-start _ _ _ _ _ _ _ _ _ (c .before .before .before .before .before .pre .held) (c .before .before .before .before .before .pre .right)
 
 put-requires : tie.Need-put-requires Inv-loop μ-loop
 put-requires c κs = search needs
@@ -36,7 +37,7 @@ loop-less : tie.Need-loop-less Inv-loop μ-loop
 loop-less c = omega (arith, c .before .before .before .before .before .before .before .before .before .before .before .before .before .before .before .before .before .before .before .before .before .before .loop-test .taken)
 
 loop-again : tie.Need-loop-again Inv-loop μ-loop
-loop-again c = rounds-more _ _ _ _ _ _ _ _ _ _ _ _ _ (c .before .before .before .before .before .before .before .before .before .before .before .before .before .before .before .before .before .before .before .before .before .before .before .loop .inv) (c .before .before .before .before .before .before .before .before .before .before .before .before .before .before .before .before .before .before .before .before .before .before .loop-test .taken) _ (c .before .before .before .before .before .before .before .before .before .before .before .before .before .before .before .before .before .before .before .before .put .ensures) _ _ _ _ (c .before .before .before .before .before .before .before .before .before .before .block .ensures) (record { n = c .before .before .before .before .before .before .before .before .before .before .block .kept .1 .0; b = c .before .before .before .before .before .before .before .before .before .before .block .kept .1 .1 .0; i = c .before .before .before .before .before .before .before .before .before .before .block .kept .1 .1 .1 .0; f = c .before .before .before .before .before .before .before .before .before .before .block .kept .1 .1 .1 .1 .0; w = c .before .before .before .before .before .before .before .before .before .before .block .kept .1 .1 .1 .1 .1 .0; v = c .before .before .before .before .before .before .before .before .before .before .block .kept .1 .1 .1 .1 .1 .1 .0 })
+loop-again c = run-on _ _ _ _ _ _ _ _ _ _ _ _ _ (c .before .before .before .before .before .before .before .before .before .before .before .before .before .before .before .before .before .before .before .before .before .before .before .loop .inv) (c .before .before .before .before .before .before .before .before .before .before .before .before .before .before .before .before .before .before .before .before .before .before .loop-test .taken) _ (c .before .before .before .before .before .before .before .before .before .before .before .before .before .before .before .before .before .before .before .before .put .ensures) _ _ _ _ (c .before .before .before .before .before .before .before .before .before .before .block .ensures) (record { n = c .before .before .before .before .before .before .before .before .before .before .block .kept .1 .0; b = c .before .before .before .before .before .before .before .before .before .before .block .kept .1 .1 .0; i = c .before .before .before .before .before .before .before .before .before .before .block .kept .1 .1 .1 .0; f = c .before .before .before .before .before .before .before .before .before .before .block .kept .1 .1 .1 .1 .0; w = c .before .before .before .before .before .before .before .before .before .before .block .kept .1 .1 .1 .1 .1 .0; v = c .before .before .before .before .before .before .before .before .before .before .block .kept .1 .1 .1 .1 .1 .1 .0 })
 
 same-length : tie.Need-same-length Inv-loop μ-loop
 same-length c = c .before .loop .inv .same .n
@@ -58,7 +59,7 @@ same-length-6 c = c .before .loop .inv .same .v
 
 returns : tie.Need-returns Inv-loop μ-loop
 unfolding blocks-of
-returns c = rounds-end _ _ _ _ _ _ _ _ _ _ _ _ _ (c .before .loop .inv) (c .loop-test .left)
+returns c = run-end _ _ _ _ _ _ _ _ _ _ _ _ _ (c .before .loop .inv) (c .loop-test .left) _ refl
 
 pub each-block-spec : {M : Type 1} → statement M
 each-block-spec =
