@@ -1,5 +1,5 @@
 // The table of Annex E, one row to a line: syncinfo and bsi up to frmsiz, then bsi, audfrm and the blocks.
-// specs/Syncinfo, Bsi, Audfrm and Audblk say what the rows mean.
+// specs/Syncinfo, Bsi, Audfrm and Audblk of crate annex say what the rows mean.
 use annex::acts as a;
 use annex::cells as c;
 use annex::cells::AT_BLK;
