@@ -44,11 +44,13 @@ no-spx-channel =
     ⨾ put (at FIRSTSPXCOS CH) (Let 1 0 no)
     ⨾ end
 
+-- and none for any channel
 unfoldable pub no-spx : Block
 no-spx =
     each CH (from 0) (Fixed 5) no-spx-channel
     ⨾ end
 
+-- whether spectral extension is in use, and where
 unfoldable pub spx-use : Block
 spx-use =
     element spxinu none 1 (cell SPXINU)
@@ -87,6 +89,7 @@ spx-use =
     ⨾ when (Is (cell SPXINU) 0) no-spx
     ⨾ end
 
+-- sent in block 0, and later where spxstre says so
 unfoldable pub spx-strategy : Block
 spx-strategy =
     when (Is (cell BLK) 0)
@@ -386,16 +389,19 @@ bai-defaults =
     ⨾ put (cell BAI-SENT) (Let 1 0 no)
     ⨾ end
 
+-- the fast gain of a slot where none is sent
 unfoldable pub fgain-default : Block
 fgain-default =
     put (at FGAINCOD SLOT) (Let 4 0 no)
     ⨾ end
 
+-- and of all seven slots
 unfoldable pub fgain-defaults : Block
 fgain-defaults =
     each SLOT (from 0) (Fixed 7) fgain-default
     ⨾ end
 
+-- the SNR offset for a converter
 unfoldable pub convsnr : Block
 convsnr =
     element convsnroffste none 1 (cell CONVSNROFFSTE)
@@ -404,6 +410,7 @@ convsnr =
     ⨾ end)
     ⨾ end
 
+-- all parameters of bit allocation
 unfoldable pub parameters : Block
 parameters =
     when (Is (cell BAMODE) 1)
@@ -558,22 +565,27 @@ mantissas-of-block =
     ⨾ end)
     ⨾ end
 
+-- audblk in four parts: up to spectral extension
 unfoldable pub audblk-dynamics : Block
 audblk-dynamics =
     dynamics ⧺ spx-strategy ⧺ spx-coordinates
 
+-- coupling and rematrixing
 unfoldable pub audblk-coupling : Block
 audblk-coupling =
     cpl-strategy ⧺ cpl-coordinates ⧺ rematrixing
 
+-- bandwidth, exponents and parameters
 unfoldable pub audblk-exponents : Block
 audblk-exponents =
     bandwidth ⧺ exponents ⧺ parameters
 
+-- deltas, skip field and mantissas
 unfoldable pub audblk-mantissas : Block
 audblk-mantissas =
     deltas ⧺ mantissas-of-block
 
+-- audblk whole
 unfoldable pub audblk : Block
 audblk =
     audblk-dynamics ⧺ audblk-coupling ⧺ audblk-exponents ⧺ audblk-mantissas

@@ -10,6 +10,7 @@ use Rattle.walk.specs.declared.table.Value.the-variants.{Let}
 use Rattle.annex.specs.Cells.{ACMOD, AHTE, BAMODE, BLK, BLKSTRTINFOE, BLKSWE, CH, CHEXPSTR, CHINSPXATTEN, CHINTRANSPROC, CONVEXPSTRE, CPLEXPSTR, CPLINUS, CPLSTRE, DBAFLDE, DITHFLAGE, EXPSTRE, FRMFGAINCODE, FRMFSNROFFST, LFEEXPSTR, NCHREGS, NCPLBLKS, NCPLREGS, NLFEREGS, NUMBLKSCOD, SKIPFLDE, SNROFFSTSTR, SPXATTENE, STRMTYP, TRANSPROCE}
 use Rattle.walk.specs.Syntax.{_⧺_}
 
+-- the allocation state at the start of the audio
 unfoldable pub fresh : Block
 fresh =
     act FRESH 0
@@ -22,12 +23,14 @@ expstre-sent =
     ⨾ element ahte none 1 (cell AHTE)
     ⨾ end
 
+-- in others they are 1 and 0
 unfoldable pub expstre-known : Block
 expstre-known =
     put (cell EXPSTRE) (Let 1 0 no)
     ⨾ put (cell AHTE) (Let 0 0 no)
     ⨾ end
 
+-- how exponents and SNR offsets are sent. snroffststr 3 is reserved
 unfoldable pub strategy-flags : Block
 strategy-flags =
     when (Is (cell NUMBLKSCOD) 3) expstre-sent
@@ -36,6 +39,7 @@ strategy-flags =
     ⨾ reject (Is (cell SNROFFSTSTR) 3) 7
     ⨾ end
 
+-- which elements the blocks have
 unfoldable pub block-flags : Block
 block-flags =
     element transproce none 1 (cell TRANSPROCE)
@@ -44,6 +48,7 @@ block-flags =
     ⨾ element bamode none 1 (cell BAMODE)
     ⨾ end
 
+-- and which fields
 unfoldable pub field-flags : Block
 field-flags =
     element frmfgaincode none 1 (cell FRMFGAINCODE)
@@ -52,6 +57,7 @@ field-flags =
     ⨾ element spxattene none 1 (cell SPXATTENE)
     ⨾ end
 
+-- all of these
 unfoldable pub frame-flags : Block
 frame-flags = block-flags ⧺ field-flags
 
@@ -81,6 +87,7 @@ cplblk-counted =
     ⨾ end)
     ⨾ end
 
+-- the blocks that use coupling
 unfoldable pub ncplblks-by : Block
 ncplblks-by =
     put (cell NCPLBLKS) (Let 0 0 no)
@@ -99,42 +106,50 @@ cplexpstr-by =
     ⨾ end)
     ⨾ end
 
+-- the strategy of a channel in a block
 unfoldable pub chexpstr-by : Block
 chexpstr-by =
     element chexpstr (by BLK) 2 (at2 CHEXPSTR CH BLK)
     ⨾ end
 
+-- those of a block: coupling first, then each channel
 unfoldable pub expstr-by : Block
 expstr-by =
     cplexpstr-by
     ⧺ (each CH (from 0) (Held (cell NFCHANS)) chexpstr-by
     ⨾ end)
 
+-- those of all blocks
 unfoldable pub block-strategies : Block
 block-strategies =
     each BLK (from 0) (Held (cell NUMBLKS)) expstr-by
     ⨾ end
 
+-- the strategy of the LFE channel in a block
 unfoldable pub lfeexpstr-by : Block
 lfeexpstr-by =
     element lfeexpstr (by BLK) 1 (at LFEEXPSTR BLK)
     ⨾ end
 
+-- and in all blocks
 unfoldable pub lfe-strategies : Block
 lfe-strategies =
     each BLK (from 0) (Held (cell NUMBLKS)) lfeexpstr-by
     ⨾ end
 
+-- the converter strategy of a channel
 unfoldable pub convexpstr-by : Block
 convexpstr-by =
     element convexpstr (by CH) 5 no
     ⨾ end
 
+-- and of all channels
 unfoldable pub conv-codes : Block
 conv-codes =
     each CH (from 0) (Held (cell NFCHANS)) convexpstr-by
     ⨾ end
 
+-- they are always there in frames of six blocks
 unfoldable pub conv-strategies : Block
 conv-strategies =
     when (Not (cell NUMBLKSCOD) 3)
@@ -146,6 +161,7 @@ conv-strategies =
     ⨾ when (Is (cell CONVEXPSTRE) 1) conv-codes
     ⨾ end
 
+-- all strategies
 unfoldable pub strategies : Block
 strategies =
     when (Is (cell EXPSTRE) 1) block-strategies
@@ -222,6 +238,7 @@ fsnroffst-by =
     put (at FSNROFFST SLOT) (Let 0 1 (cell FRMFSNROFFST))
     ⨾ end
 
+-- and the coarse offset before them
 unfoldable pub snroffsts : Block
 snroffsts =
     element frmcsnroffst none 6 (cell CSNROFFST)
@@ -259,5 +276,6 @@ offsets =
     ⨾ end)
     ⨾ end
 
+-- audfrm whole
 unfoldable pub audfrm : Block
 audfrm = flags ⧺ strategies ⧺ hybrid ⧺ offsets
