@@ -10,31 +10,43 @@ use Rattle.walk.specs.declared.table.Value.the-variants.{Here, Let, Less, Plus,
 use Rattle.annex.specs.Cells.{ACMOD, AHT-TAGS, BAIE, BAMODE, BLK, BLKFSNROFFST, BLKSWE, BLOCK-STARTS, BND, CH, CHBWCOD, CHBWSENT, CHEXPSTR, CHINSPX, CONVSNROFFSTE, CPL-BLOCKS, CPLBEGF, CPLBNDSTRCE, CPLCOE, CPLENDF, CPLENDF-3, CPLEXPSTR, CPLHELD, CPLINUS, CPLLEAKE, CPLSTRE, DBAFLDE, DELTBAIE, DITHFLAGE, DYNRNG2E, DYNRNGE, ECPLINU, FGAINCODE, FREE, FRMFGAINCODE, GRP, HELDEND, LFEEXPSTR, MANTISSA-STARTS, NCPLBND, NCPLSUBND, NREMATBD, NSEG, NSPXBNDS, PHSFLGE, PHSFLGINU, POS, REMATSTR, SEG, SKIPFLDE, SKIPL, SKIPLE, SNROFFSTE, SNROFFSTSTR, SPX-BEGIN, SPX-BLOCKS, SPX-END, SPXBEGF, SPXBNDSTRCE, SPXCOE, SPXENDF, SPXINU, SPXSTRE, STRMTYP, SUB, TAGS}
 use Rattle.walk.specs.Syntax.{_⧺_}
 
+-- block switch flags
+unfoldable pub block-switches : Block
+block-switches =
+    each CH (from 0) (Held (cell NFCHANS))
+    (element blksw (by CH) 1 no
+    ⨾ end)
+    ⨾ end
+
+-- dither flags
+unfoldable pub dither-flags : Block
+dither-flags =
+    each CH (from 0) (Held (cell NFCHANS))
+    (element dithflag (by CH) 1 no
+    ⨾ end)
+    ⨾ end
+
+-- dynamic range control of the second channel of two
+unfoldable pub second-dynamics : Block
+second-dynamics =
+    element dynrng2e none 1 (cell DYNRNG2E)
+    ⨾ when (Is (cell DYNRNG2E) 1)
+    (element dynrng2 none 8 no
+    ⨾ end)
+    ⨾ end
+
 -- block switch, dither and dynamic range control
 unfoldable pub dynamics : Block
 dynamics =
     put (cell BLOCK) (Let 1 1 (cell BLK))
     ⨾ put (at BLOCK-STARTS BLK) Here
-    ⨾ when (Is (cell BLKSWE) 1)
-    (each CH (from 0) (Held (cell NFCHANS))
-    (element blksw (by CH) 1 no
-    ⨾ end)
-    ⨾ end)
-    ⨾ when (Is (cell DITHFLAGE) 1)
-    (each CH (from 0) (Held (cell NFCHANS))
-    (element dithflag (by CH) 1 no
-    ⨾ end)
-    ⨾ end)
+    ⨾ when (Is (cell BLKSWE) 1) block-switches
+    ⨾ when (Is (cell DITHFLAGE) 1) dither-flags
     ⨾ element dynrnge none 1 (cell DYNRNGE)
     ⨾ when (Is (cell DYNRNGE) 1)
     (element dynrng none 8 no
     ⨾ end)
-    ⨾ when (Is (cell ACMOD) 0)
-    (element dynrng2e none 1 (cell DYNRNG2E)
-    ⨾ when (Is (cell DYNRNG2E) 1)
-    (element dynrng2 none 8 no
-    ⨾ end)
-    ⨾ end)
+    ⨾ when (Is (cell ACMOD) 0) second-dynamics
     ⨾ end
 
 -- spectral extension strategy: the sub-bands of E.2.3
@@ -50,12 +62,10 @@ no-spx =
     each CH (from 0) (Fixed 5) no-spx-channel
     ⨾ end
 
--- whether spectral extension is in use, and where
-unfoldable pub spx-use : Block
-spx-use =
-    element spxinu none 1 (cell SPXINU)
-    ⨾ when (Is (cell SPXINU) 1)
-    (when (Is (cell ACMOD) 1)
+-- the channels in spectral extension, its range and its bands
+unfoldable pub spx-bands : Block
+spx-bands =
+    when (Is (cell ACMOD) 1)
     (put (cell CHINSPX) (Let 1 0 no)
     ⨾ end)
     ⨾ when (Not (cell ACMOD) 1)
@@ -85,7 +95,13 @@ spx-use =
     (element spxbndstrc (by BND) 1 (at SPXBNDSTRC BND)
     ⨾ end)
     ⨾ end)
-    ⨾ end)
+    ⨾ end
+
+-- whether spectral extension is in use, and where
+unfoldable pub spx-use : Block
+spx-use =
+    element spxinu none 1 (cell SPXINU)
+    ⨾ when (Is (cell SPXINU) 1) spx-bands
     ⨾ when (Is (cell SPXINU) 0) no-spx
     ⨾ end
 
@@ -101,11 +117,10 @@ spx-strategy =
     ⨾ when (Is (cell SPXSTRE) 1) spx-use
     ⨾ end
 
--- spectral extension coordinates
-unfoldable pub spx-coordinates : Block
-spx-coordinates =
-    when (Is (cell SPXINU) 1)
-    (put (cell SPX-BLOCKS) (Let 1 1 (cell SPX-BLOCKS))
+-- spectral extension coordinates of each channel that is in it
+unfoldable pub spx-coordinates-of : Block
+spx-coordinates-of =
+    put (cell SPX-BLOCKS) (Let 1 1 (cell SPX-BLOCKS))
     ⨾ put (cell NSPXBNDS) (Let 1 0 no)
     ⨾ each BND (held+ 1 SPX-BEGIN) (Held (cell SPX-END))
     (when (Is (at SPXBNDSTRC BND) 0)
@@ -134,15 +149,18 @@ spx-coordinates =
     (put (at FIRSTSPXCOS CH) (Let 1 0 no)
     ⨾ end)
     ⨾ end)
-    ⨾ end)
     ⨾ end
 
--- coupling strategy. Enhanced coupling is refused. cplendf is held as cplendf + 3, since it may be -2 where spectral extension gives it
-unfoldable pub cpl-strategy : Block
-cpl-strategy =
-    put (cell CPLINU) (Let 0 1 (at CPLINUS BLK))
-    ⨾ when (Is (at CPLSTRE BLK) 1)
-    (when (Is (cell CPLINU) 1)
+-- spectral extension coordinates
+unfoldable pub spx-coordinates : Block
+spx-coordinates =
+    when (Is (cell SPXINU) 1) spx-coordinates-of
+    ⨾ end
+
+-- a new strategy: the channels in coupling, its range and its bands; or no coupling
+unfoldable pub cpl-use : Block
+cpl-use =
+    when (Is (cell CPLINU) 1)
     (element ecplinu none 1 (cell ECPLINU)
     ⨾ reject (Is (cell ECPLINU) 1) 9
     ⨾ when (Is (cell ACMOD) 2)
@@ -195,14 +213,19 @@ cpl-strategy =
     ⨾ put (cell FIRSTCPLLEAK) (Let 1 0 no)
     ⨾ put (cell PHSFLGINU) (Let 0 0 no)
     ⨾ end)
-    ⨾ end)
     ⨾ end
 
--- coupling coordinates and phase flags
-unfoldable pub cpl-coordinates : Block
-cpl-coordinates =
-    when (Is (cell CPLINU) 1)
-    (put (cell CPL-BLOCKS) (Let 1 1 (cell CPL-BLOCKS))
+-- coupling strategy. Enhanced coupling is refused. cplendf is held as cplendf + 3, since it may be -2 where spectral extension gives it
+unfoldable pub cpl-strategy : Block
+cpl-strategy =
+    put (cell CPLINU) (Let 0 1 (at CPLINUS BLK))
+    ⨾ when (Is (at CPLSTRE BLK) 1) cpl-use
+    ⨾ end
+
+-- coupling coordinates of each channel that is coupled, and the phase flags
+unfoldable pub cpl-coordinates-of : Block
+cpl-coordinates-of =
+    put (cell CPL-BLOCKS) (Let 1 1 (cell CPL-BLOCKS))
     ⨾ each CH (from 0) (Fixed 5)
     (put (at CPLCOE CH) (Let 0 0 no)
     ⨾ end)
@@ -238,14 +261,18 @@ cpl-coordinates =
     ⨾ end)
     ⨾ end)
     ⨾ end)
-    ⨾ end)
     ⨾ end
 
--- rematrixing: the number of bands by E.2.3.2
-unfoldable pub rematrixing : Block
-rematrixing =
-    when (Is (cell ACMOD) 2)
-    (when (Is (cell BLK) 0)
+-- coupling coordinates and phase flags
+unfoldable pub cpl-coordinates : Block
+cpl-coordinates =
+    when (Is (cell CPLINU) 1) cpl-coordinates-of
+    ⨾ end
+
+-- rematrixing flags of a stereo block: the number of bands by E.2.3.2
+unfoldable pub rematrixing-bands : Block
+rematrixing-bands =
+    when (Is (cell BLK) 0)
     (put (cell REMATSTR) (Let 1 0 no)
     ⨾ end)
     ⨾ when (Not (cell BLK) 0)
@@ -272,53 +299,129 @@ rematrixing =
     (element rematflg (by BND) 1 no
     ⨾ end)
     ⨾ end)
+    ⨾ end
+
+-- rematrixing
+unfoldable pub rematrixing : Block
+rematrixing =
+    when (Is (cell ACMOD) 2) rematrixing-bands
+    ⨾ end
+
+-- the bandwidth code of a channel
+unfoldable pub bandwidth-code : Block
+bandwidth-code =
+    element chbwcod (by CH) 6 (at CHBWCOD CH)
+    ⨾ reject (Above (at CHBWCOD CH) 60) 10
+    ⨾ put (at CHBWSENT CH) (Let 1 0 no)
+    ⨾ end
+
+-- it is sent with new exponents of a channel that is neither coupled nor extended
+unfoldable pub bandwidth-channel : Block
+bandwidth-channel =
+    when (Not (at2 CHEXPSTR CH BLK) 0)
+    (when (Is (at CHINCPL CH) 0)
+    (when (Is (at CHINSPX CH) 0) bandwidth-code
+    ⨾ end)
     ⨾ end)
     ⨾ end
 
--- channel bandwidth codes, and then the first bin past each channel: where coupling begins, where spectral extension begins, or 37 + 3 (chbwcod + 12)
-unfoldable pub bandwidth : Block
-bandwidth =
-    each CH (from 0) (Held (cell NFCHANS))
-    (when (Not (at2 CHEXPSTR CH BLK) 0)
-    (when (Is (at CHINCPL CH) 0)
-    (when (Is (at CHINSPX CH) 0)
-    (element chbwcod (by CH) 6 (at CHBWCOD CH)
-    ⨾ reject (Above (at CHBWCOD CH) 60) 10
-    ⨾ put (at CHBWSENT CH) (Let 1 0 no)
-    ⨾ end)
-    ⨾ end)
-    ⨾ end)
-    ⨾ end)
-    ⨾ put (cell CPLSTRT) (Let 37 12 (cell CPLBEGF))
-    ⨾ put (cell CPLEND) (Let 37 12 (cell CPLENDF-3))
-    ⨾ each CH (from 0) (Held (cell NFCHANS))
-    (put (cell FREE) (Let 1 0 no)
-    ⨾ when (Is (cell CPLINU) 1)
-    (when (Is (at CHINCPL CH) 1)
-    (put (at ENDMANT CH) (Let 0 1 (cell CPLSTRT))
+-- the first bin past a channel: where coupling begins
+unfoldable pub end-coupled : Block
+end-coupled =
+    put (at ENDMANT CH) (Let 0 1 (cell CPLSTRT))
     ⨾ put (cell FREE) (Let 0 0 no)
-    ⨾ end)
+    ⨾ end
+
+-- where spectral extension begins
+unfoldable pub end-extended : Block
+end-extended =
+    put (at ENDMANT CH) (Let 25 12 (cell SPX-BEGIN))
+    ⨾ put (cell FREE) (Let 0 0 no)
+    ⨾ end
+
+-- or 37 + 3 (chbwcod + 12)
+unfoldable pub end-coded : Block
+end-coded =
+    reject (Is (at CHBWSENT CH) 0) 23
+    ⨾ put (at ENDMANT CH) (Let 73 3 (at CHBWCOD CH))
+    ⨾ end
+
+-- the first of the three that holds
+unfoldable pub end-channel : Block
+end-channel =
+    put (cell FREE) (Let 1 0 no)
+    ⨾ when (Is (cell CPLINU) 1)
+    (when (Is (at CHINCPL CH) 1) end-coupled
     ⨾ end)
     ⨾ when (Is (cell FREE) 1)
     (when (Is (cell SPXINU) 1)
-    (when (Is (at CHINSPX CH) 1)
-    (put (at ENDMANT CH) (Let 25 12 (cell SPX-BEGIN))
-    ⨾ put (cell FREE) (Let 0 0 no)
+    (when (Is (at CHINSPX CH) 1) end-extended
     ⨾ end)
     ⨾ end)
-    ⨾ end)
-    ⨾ when (Is (cell FREE) 1)
-    (reject (Is (at CHBWSENT CH) 0) 23
-    ⨾ put (at ENDMANT CH) (Let 73 3 (at CHBWCOD CH))
-    ⨾ end)
-    ⨾ end)
+    ⨾ when (Is (cell FREE) 1) end-coded
     ⨾ end
 
--- exponents of coupling, of the channels with their gain ranges, and of LFE; or those that are held, which must fit
-unfoldable pub exponents : Block
-exponents =
-    when (Is (cell CPLINU) 1)
-    (when (Not (at CPLEXPSTR BLK) 0)
+-- channel bandwidth codes, and then the first bin past each channel
+unfoldable pub bandwidth : Block
+bandwidth =
+    each CH (from 0) (Held (cell NFCHANS)) bandwidth-channel
+    ⨾ put (cell CPLSTRT) (Let 37 12 (cell CPLBEGF))
+    ⨾ put (cell CPLEND) (Let 37 12 (cell CPLENDF-3))
+    ⨾ each CH (from 0) (Held (cell NFCHANS)) end-channel
+    ⨾ end
+
+-- a group of three exponents of a channel
+unfoldable pub exponent-group : Block
+exponent-group =
+    element exps-ch (by CH) 7 (cell GROUP)
+    ⨾ act EXP-GROUP 0
+    ⨾ end
+
+-- the slot, the strategy and the bins of a channel
+unfoldable pub exponent-bins : Block
+exponent-bins =
+    put (cell SLOT) (Let 0 1 (cell CH))
+    ⨾ put (cell STRATEGY) (Let 0 1 (at CHEXPSTR POS))
+    ⨾ put (cell STRTBIN) (Let 0 0 no)
+    ⨾ put (cell ENDBIN) (Let 0 1 (at ENDMANT CH))
+    ⨾ end
+
+-- the groups of a channel, and its gain range
+unfoldable pub exponent-groups : Block
+exponent-groups =
+    act EXP-BEGIN 0
+    ⨾ each GRP (from 0) (Held (cell GROUPS)) exponent-group
+    ⨾ element gainrng (by CH) 2 no
+    ⨾ put (at HELDEND CH) (Let 0 1 (at ENDMANT CH))
+    ⨾ end
+
+-- new exponents of a channel
+unfoldable pub exponents-sent : Block
+exponents-sent =
+    (element exps-ch-0 (by CH) 4 (cell ABSEXP)
+    ⨾ end)
+    ⧺ exponent-bins
+    ⧺ exponent-groups
+
+-- those of a channel that are held must reach as far as the channel does
+unfoldable pub exponents-held : Block
+exponents-held =
+    reject (Differs (at HELDEND CH) (at ENDMANT CH)) 25
+    ⨾ end
+
+-- exponents of a channel
+unfoldable pub exponents-channel : Block
+exponents-channel =
+    put (cell POS) (Let 0 8 (cell BLK))
+    ⨾ put (cell POS) (Plus (cell CH))
+    ⨾ when (Not (at2 CHEXPSTR CH BLK) 0) exponents-sent
+    ⨾ when (Is (at2 CHEXPSTR CH BLK) 0) exponents-held
+    ⨾ end
+
+-- exponents of coupling, new or held
+unfoldable pub cpl-exponents : Block
+cpl-exponents =
+    when (Not (at CPLEXPSTR BLK) 0)
     (element cplabsexp (nth 0) 4 (cell ABSEXP)
     ⨾ put (cell SLOT) (Let 5 0 no)
     ⨾ put (cell STRATEGY) (Let 0 1 (at CPLEXPSTR BLK))
@@ -336,30 +439,12 @@ exponents =
     (reject (Differs (cell CPLHELD) (cell CPLSTRT)) 24
     ⨾ reject (Differs (cell (HELDEND + 5)) (cell CPLEND)) 24
     ⨾ end)
-    ⨾ end)
-    ⨾ each CH (from 0) (Held (cell NFCHANS))
-    (put (cell POS) (Let 0 8 (cell BLK))
-    ⨾ put (cell POS) (Plus (cell CH))
-    ⨾ when (Not (at2 CHEXPSTR CH BLK) 0)
-    (element exps-ch-0 (by CH) 4 (cell ABSEXP)
-    ⨾ put (cell SLOT) (Let 0 1 (cell CH))
-    ⨾ put (cell STRATEGY) (Let 0 1 (at CHEXPSTR POS))
-    ⨾ put (cell STRTBIN) (Let 0 0 no)
-    ⨾ put (cell ENDBIN) (Let 0 1 (at ENDMANT CH))
-    ⨾ act EXP-BEGIN 0
-    ⨾ each GRP (from 0) (Held (cell GROUPS))
-    (element exps-ch (by CH) 7 (cell GROUP)
-    ⨾ act EXP-GROUP 0
-    ⨾ end)
-    ⨾ element gainrng (by CH) 2 no
-    ⨾ put (at HELDEND CH) (Let 0 1 (at ENDMANT CH))
-    ⨾ end)
-    ⨾ when (Is (at2 CHEXPSTR CH BLK) 0)
-    (reject (Differs (at HELDEND CH) (at ENDMANT CH)) 25
-    ⨾ end)
-    ⨾ end)
-    ⨾ when (Is (cell LFEON) 1)
-    (when (Not (at LFEEXPSTR BLK) 0)
+    ⨾ end
+
+-- exponents of LFE, new or held
+unfoldable pub lfe-exponents : Block
+lfe-exponents =
+    when (Not (at LFEEXPSTR BLK) 0)
     (element lfeexps-0 (nth 0) 4 (cell ABSEXP)
     ⨾ put (cell SLOT) (Let 6 0 no)
     ⨾ put (cell STRATEGY) (Let 1 0 no)
@@ -375,10 +460,17 @@ exponents =
     ⨾ when (Is (at LFEEXPSTR BLK) 0)
     (reject (Is (cell (HELDEND + 6)) 0) 26
     ⨾ end)
-    ⨾ end)
     ⨾ end
 
--- bit allocation parametric information, SNR offsets, fast gains, converter SNR offset and coupling leak
+-- exponents of coupling, of the channels with their gain ranges, and of LFE; or those that are held, which must fit
+unfoldable pub exponents : Block
+exponents =
+    when (Is (cell CPLINU) 1) cpl-exponents
+    ⨾ each CH (from 0) (Held (cell NFCHANS)) exponents-channel
+    ⨾ when (Is (cell LFEON) 1) lfe-exponents
+    ⨾ end
+
+-- bit allocation parametric information where none is sent
 unfoldable pub bai-defaults : Block
 bai-defaults =
     put (cell SDCYCOD) (Let 2 0 no)
@@ -410,11 +502,10 @@ convsnr =
     ⨾ end)
     ⨾ end
 
--- all parameters of bit allocation
-unfoldable pub parameters : Block
-parameters =
-    when (Is (cell BAMODE) 1)
-    (element baie none 1 (cell BAIE)
+-- bit allocation parametric information, where a block may send it
+unfoldable pub bai-sent : Block
+bai-sent =
+    element baie none 1 (cell BAIE)
     ⨾ when (Is (cell BAIE) 1)
     (element sdcycod none 2 (cell SDCYCOD)
     ⨾ element fdcycod none 2 (cell FDCYCOD)
@@ -423,10 +514,12 @@ parameters =
     ⨾ element floorcod none 3 (cell FLOORCOD)
     ⨾ put (cell BAI-SENT) (Let 1 0 no)
     ⨾ end)
-    ⨾ end)
-    ⨾ when (Is (cell BAMODE) 0) bai-defaults
-    ⨾ when (Not (cell SNROFFSTSTR) 0)
-    (when (Is (cell BLK) 0)
+    ⨾ end
+
+-- SNR offsets of a block
+unfoldable pub snr-offsets : Block
+snr-offsets =
+    when (Is (cell BLK) 0)
     (put (cell SNROFFSTE) (Let 1 0 no)
     ⨾ end)
     ⨾ when (Not (cell BLK) 0)
@@ -452,15 +545,20 @@ parameters =
     ⨾ end)
     ⨾ end)
     ⨾ end)
-    ⨾ end)
-    ⨾ when (Is (cell FRMFGAINCODE) 1)
-    (element fgaincode none 1 (cell FGAINCODE)
-    ⨾ end)
-    ⨾ when (Is (cell FRMFGAINCODE) 0)
-    (put (cell FGAINCODE) (Let 0 0 no)
-    ⨾ end)
-    ⨾ when (Is (cell FGAINCODE) 1)
-    (when (Is (cell CPLINU) 1)
+    ⨾ end
+
+-- the parameters and the SNR offsets
+unfoldable pub snr-parameters : Block
+snr-parameters =
+    when (Is (cell BAMODE) 1) bai-sent
+    ⨾ when (Is (cell BAMODE) 0) bai-defaults
+    ⨾ when (Not (cell SNROFFSTSTR) 0) snr-offsets
+    ⨾ end
+
+-- fast gains of each slot
+unfoldable pub fgains : Block
+fgains =
+    when (Is (cell CPLINU) 1)
     (element cplfgaincod none 3 (cell (FGAINCOD + 5))
     ⨾ end)
     ⨾ each CH (from 0) (Held (cell NFCHANS))
@@ -469,11 +567,12 @@ parameters =
     ⨾ when (Is (cell LFEON) 1)
     (element lfefgaincod none 3 (cell (FGAINCOD + 6))
     ⨾ end)
-    ⨾ end)
-    ⨾ when (Is (cell FGAINCODE) 0) fgain-defaults
-    ⨾ when (Is (cell STRMTYP) 0) convsnr
-    ⨾ when (Is (cell CPLINU) 1)
-    (when (Is (cell FIRSTCPLLEAK) 0)
+    ⨾ end
+
+-- coupling leak
+unfoldable pub cpl-leak : Block
+cpl-leak =
+    when (Is (cell FIRSTCPLLEAK) 0)
     (element cplleake none 1 (cell CPLLEAKE)
     ⨾ end)
     ⨾ when (Is (cell FIRSTCPLLEAK) 1)
@@ -484,14 +583,32 @@ parameters =
     (element cplfleak none 3 (cell CPLFLEAK)
     ⨾ element cplsleak none 3 (cell CPLSLEAK)
     ⨾ end)
-    ⨾ end)
     ⨾ end
 
--- delta bit allocation and the skip field. All codes come before the first segments
-unfoldable pub deltas : Block
-deltas =
-    when (Is (cell DBAFLDE) 1)
-    (element deltbaie none 1 (cell DELTBAIE)
+-- fast gains, converter SNR offset and coupling leak
+unfoldable pub gain-parameters : Block
+gain-parameters =
+    when (Is (cell FRMFGAINCODE) 1)
+    (element fgaincode none 1 (cell FGAINCODE)
+    ⨾ end)
+    ⨾ when (Is (cell FRMFGAINCODE) 0)
+    (put (cell FGAINCODE) (Let 0 0 no)
+    ⨾ end)
+    ⨾ when (Is (cell FGAINCODE) 1) fgains
+    ⨾ when (Is (cell FGAINCODE) 0) fgain-defaults
+    ⨾ when (Is (cell STRMTYP) 0) convsnr
+    ⨾ when (Is (cell CPLINU) 1) cpl-leak
+    ⨾ end
+
+-- all parameters of bit allocation
+unfoldable pub parameters : Block
+parameters =
+    snr-parameters ⧺ gain-parameters
+
+-- delta bit allocation: all codes, and then the segments
+unfoldable pub delta-segments : Block
+delta-segments =
+    element deltbaie none 1 (cell DELTBAIE)
     ⨾ when (Is (cell DELTBAIE) 1)
     (when (Is (cell CPLINU) 1)
     (element cpldeltbae none 2 (cell (DELTBAE + 5))
@@ -528,26 +645,30 @@ deltas =
     ⨾ end)
     ⨾ end)
     ⨾ end)
-    ⨾ end)
-    ⨾ when (Is (cell SKIPFLDE) 1)
-    (element skiple none 1 (cell SKIPLE)
+    ⨾ end
+
+-- the skip field
+unfoldable pub skip-field : Block
+skip-field =
+    element skiple none 1 (cell SKIPLE)
     ⨾ when (Is (cell SKIPLE) 1)
     (element skipl none 9 (cell SKIPL)
     ⨾ put (cell WIDTH) (Let 0 8 (cell SKIPL))
     ⨾ span skipfld (cell WIDTH)
     ⨾ end)
-    ⨾ end)
     ⨾ end
 
--- the allocation, the mantissas, and which slots of the adaptive hybrid transform are then read for the whole frame
-unfoldable pub mantissas-of-block : Block
-mantissas-of-block =
-    act ALLOCATE 0
-    ⨾ put (at MANTISSA-STARTS BLK) Here
-    ⨾ scan mantissas (cell TAGS)
-    ⨾ put (cell AHT-TAGS) (Plus (cell TAGS))
-    ⨾ each CH (from 0) (Held (cell NFCHANS))
-    (when (Is (at AHTINU CH) 1)
+-- delta bit allocation and the skip field. All codes come before the first segments
+unfoldable pub deltas : Block
+deltas =
+    when (Is (cell DBAFLDE) 1) delta-segments
+    ⨾ when (Is (cell SKIPFLDE) 1) skip-field
+    ⨾ end
+
+-- a slot of the adaptive hybrid transform is read for the whole frame: that of a channel, and that of coupling where a channel is coupled
+unfoldable pub aht-channel : Block
+aht-channel =
+    when (Is (at AHTINU CH) 1)
     (put (at AHT-READ CH) (Let 1 0 no)
     ⨾ end)
     ⨾ when (Is (at CHINCPL CH) 1)
@@ -557,13 +678,28 @@ mantissas-of-block =
     ⨾ end)
     ⨾ end)
     ⨾ end)
-    ⨾ end)
-    ⨾ when (Is (cell LFEON) 1)
+    ⨾ end
+
+-- that of LFE
+unfoldable pub aht-lfe : Block
+aht-lfe =
+    when (Is (cell LFEON) 1)
     (when (Is (cell (AHTINU + 6)) 1)
     (put (cell (AHT-READ + 6)) (Let 1 0 no)
     ⨾ end)
     ⨾ end)
     ⨾ end
+
+-- the allocation, the mantissas, and which slots of the adaptive hybrid transform are then read for the whole frame
+unfoldable pub mantissas-of-block : Block
+mantissas-of-block =
+    (act ALLOCATE 0
+    ⨾ put (at MANTISSA-STARTS BLK) Here
+    ⨾ scan mantissas (cell TAGS)
+    ⨾ put (cell AHT-TAGS) (Plus (cell TAGS))
+    ⨾ each CH (from 0) (Held (cell NFCHANS)) aht-channel
+    ⨾ end)
+    ⧺ aht-lfe
 
 -- audblk in four parts: up to spectral extension
 unfoldable pub audblk-dynamics : Block

@@ -61,11 +61,10 @@ field-flags =
 unfoldable pub frame-flags : Block
 frame-flags = block-flags ⧺ field-flags
 
--- the use of coupling block by block
-unfoldable pub coupling-use : Block
-coupling-use =
-    when (Above (cell ACMOD) 1)
-    (put (cell CPLSTRE) (Let 1 0 no)
+-- coupling may be in use with two channels or more
+unfoldable pub coupling-blocks : Block
+coupling-blocks =
+    put (cell CPLSTRE) (Let 1 0 no)
     ⨾ element cplinu (nth 0) 1 (cell CPLINUS)
     ⨾ each BLK (from 1) (Held (cell NUMBLKS))
     (element cplstre (by BLK) 1 (at CPLSTRE BLK)
@@ -76,7 +75,12 @@ coupling-use =
     (put (at CPLINUS BLK) (Let 0 1 (at (CPLINUS - 1) BLK))
     ⨾ end)
     ⨾ end)
-    ⨾ end)
+    ⨾ end
+
+-- the use of coupling block by block
+unfoldable pub coupling-use : Block
+coupling-use =
+    when (Above (cell ACMOD) 1) coupling-blocks
     ⨾ end
 
 -- ncplblks: E.2.4.2
@@ -161,12 +165,10 @@ conv-strategies =
     ⨾ when (Is (cell CONVEXPSTRE) 1) conv-codes
     ⨾ end
 
--- all strategies
-unfoldable pub strategies : Block
-strategies =
-    when (Is (cell EXPSTRE) 1) block-strategies
-    ⨾ when (Is (cell EXPSTRE) 0)
-    (when (Above (cell ACMOD) 1)
+-- one code for the strategies of all blocks: of coupling where it is used, and of each channel
+unfoldable pub frame-strategies : Block
+frame-strategies =
+    when (Above (cell ACMOD) 1)
     (when (Above (cell NCPLBLKS) 0)
     (element frmcplexpstr none 5 (cell FRMEXPSTR)
     ⨾ act FRAME-EXPSTR 0
@@ -182,16 +184,21 @@ strategies =
     (put (at2 CHEXPSTR CH BLK) (Let 0 1 (at EXPSTR BLK))
     ⨾ end)
     ⨾ end)
-    ⨾ end)
+    ⨾ end
+
+-- all strategies
+unfoldable pub strategies : Block
+strategies =
+    when (Is (cell EXPSTRE) 1) block-strategies
+    ⨾ when (Is (cell EXPSTRE) 0) frame-strategies
     ⨾ when (Is (cell LFEON) 1) lfe-strategies
     ⨾ when (Is (cell STRMTYP) 0) conv-strategies
     ⨾ end
 
--- adaptive hybrid transform: the helper variables of E.2.4.2
-unfoldable pub hybrid : Block
-hybrid =
-    when (Is (cell AHTE) 1)
-    (put (cell NCPLREGS) (Let 0 0 no)
+-- the slots that may use the transform, and which of them do
+unfoldable pub hybrid-slots : Block
+hybrid-slots =
+    put (cell NCPLREGS) (Let 0 0 no)
     ⨾ each BLK (from 0) (Fixed 6)
     (when (Is (at CPLSTRE BLK) 1)
     (put (cell NCPLREGS) (Let 1 1 (cell NCPLREGS))
@@ -229,7 +236,12 @@ hybrid =
     (element lfeahtinu none 1 (cell (AHTINU + 6))
     ⨾ end)
     ⨾ end)
-    ⨾ end)
+    ⨾ end
+
+-- adaptive hybrid transform: the helper variables of E.2.4.2
+unfoldable pub hybrid : Block
+hybrid =
+    when (Is (cell AHTE) 1) hybrid-slots
     ⨾ end
 
 -- SNR offsets of the frame, one for all slots
@@ -246,34 +258,46 @@ snroffsts =
     ⨾ each SLOT (from 0) (Fixed 7) fsnroffst-by
     ⨾ end
 
--- SNR offsets of the frame, transient pre-noise processing, spectral extension attenuation, block start information
-unfoldable pub offsets : Block
-offsets =
-    when (Is (cell SNROFFSTSTR) 0) snroffsts
-    ⨾ when (Is (cell TRANSPROCE) 1)
-    (each CH (from 0) (Held (cell NFCHANS))
+-- transient pre-noise processing of each channel
+unfoldable pub transient-processing : Block
+transient-processing =
+    each CH (from 0) (Held (cell NFCHANS))
     (element chintransproc (by CH) 1 (cell CHINTRANSPROC)
     ⨾ when (Is (cell CHINTRANSPROC) 1)
     (element transprocloc (by CH) 10 no
     ⨾ element transproclen (by CH) 8 no
     ⨾ end)
     ⨾ end)
-    ⨾ end)
-    ⨾ when (Is (cell SPXATTENE) 1)
-    (each CH (from 0) (Held (cell NFCHANS))
+    ⨾ end
+
+-- spectral extension attenuation of each channel
+unfoldable pub spx-attenuation : Block
+spx-attenuation =
+    each CH (from 0) (Held (cell NFCHANS))
     (element chinspxatten (by CH) 1 (cell CHINSPXATTEN)
     ⨾ when (Is (cell CHINSPXATTEN) 1)
     (element spxattencod (by CH) 5 no
     ⨾ end)
     ⨾ end)
-    ⨾ end)
-    ⨾ when (Not (cell NUMBLKSCOD) 0)
-    (element blkstrtinfoe none 1 (cell BLKSTRTINFOE)
+    ⨾ end
+
+-- where the blocks start
+unfoldable pub block-start-info : Block
+block-start-info =
+    element blkstrtinfoe none 1 (cell BLKSTRTINFOE)
     ⨾ when (Is (cell BLKSTRTINFOE) 1)
     (act BLKSTRTINFO 0
     ⨾ span blkstrtinfo (cell WIDTH)
     ⨾ end)
-    ⨾ end)
+    ⨾ end
+
+-- SNR offsets of the frame, transient pre-noise processing, spectral extension attenuation, block start information
+unfoldable pub offsets : Block
+offsets =
+    when (Is (cell SNROFFSTSTR) 0) snroffsts
+    ⨾ when (Is (cell TRANSPROCE) 1) transient-processing
+    ⨾ when (Is (cell SPXATTENE) 1) spx-attenuation
+    ⨾ when (Not (cell NUMBLKSCOD) 0) block-start-info
     ⨾ end
 
 -- audfrm whole

@@ -68,16 +68,20 @@ loudness =
     ⨾ end)
     ⨾ end
 
--- those of the second programme of two
-unfoldable pub loudness2 : Block
-loudness2 =
-    when (Is (cell ACMOD) 0)
-    (element dialnorm2 none 5 no
+-- dialogue level and compression of the second channel of two
+unfoldable pub dual-mono : Block
+dual-mono =
+    element dialnorm2 none 5 no
     ⨾ element compr2e none 1 (cell COMPR2E)
     ⨾ when (Is (cell COMPR2E) 1)
     (element compr2 none 8 no
     ⨾ end)
-    ⨾ end)
+    ⨾ end
+
+-- those of the second programme of two
+unfoldable pub loudness2 : Block
+loudness2 =
+    when (Is (cell ACMOD) 0) dual-mono
     ⨾ end
 
 -- the channel map of a dependent substream
@@ -169,12 +173,10 @@ mixdef3 =
     ⨾ span mixdata (cell WIDTH)
     ⨾ end
 
--- mixing metadata
-unfoldable pub mixing : Block
-mixing =
-    element mixmdate none 1 (cell MIXMDATE)
-    ⨾ when (Is (cell MIXMDATE) 1)
-    (when (Above (cell ACMOD) 2)
+-- what a decoder does to mix this programme with another
+unfoldable pub mixing-metadata : Block
+mixing-metadata =
+    when (Above (cell ACMOD) 2)
     (element dmixmod none 2 no
     ⨾ end)
     ⨾ when (Above (cell ACMOD) 2)
@@ -247,15 +249,19 @@ mixing =
     ⨾ end)
     ⨾ end)
     ⨾ end)
-    ⨾ end)
     ⨾ end
 
--- informational metadata, converter synchronization, and additional bit stream information
-unfoldable pub info : Block
-info =
-    element infomdate none 1 (cell INFOMDATE)
-    ⨾ when (Is (cell INFOMDATE) 1)
-    (element bsmod none 3 no
+-- mixing metadata
+unfoldable pub mixing : Block
+mixing =
+    element mixmdate none 1 (cell MIXMDATE)
+    ⨾ when (Is (cell MIXMDATE) 1) mixing-metadata
+    ⨾ end
+
+-- what the programme is, and how it was made
+unfoldable pub informational-metadata : Block
+informational-metadata =
+    element bsmod none 3 no
     ⨾ element copyrightb none 1 no
     ⨾ element origbs none 1 no
     ⨾ when (Is (cell ACMOD) 2)
@@ -282,14 +288,20 @@ info =
     ⨾ when (Below (cell FSCOD) 3)
     (element sourcefscod none 1 no
     ⨾ end)
-    ⨾ end)
-    ⨾ when (Is (cell STRMTYP) 0)
-    (when (Not (cell NUMBLKSCOD) 3)
+    ⨾ end
+
+-- the flag that joins frames of fewer than six blocks for a converter
+unfoldable pub converter-sync : Block
+converter-sync =
+    when (Not (cell NUMBLKSCOD) 3)
     (element convsync none 1 no
     ⨾ end)
-    ⨾ end)
-    ⨾ when (Is (cell STRMTYP) 2)
-    (when (Is (cell NUMBLKSCOD) 3)
+    ⨾ end
+
+-- a frame that was one of AC-3: whether its first block begins here, and its size there
+unfoldable pub converted-frame : Block
+converted-frame =
+    when (Is (cell NUMBLKSCOD) 3)
     (put (cell BLKID) (Let 1 0 no)
     ⨾ end)
     ⨾ when (Not (cell NUMBLKSCOD) 3)
@@ -298,13 +310,25 @@ info =
     ⨾ when (Is (cell BLKID) 1)
     (element frmsizecod none 6 no
     ⨾ end)
-    ⨾ end)
-    ⨾ element addbsie none 1 (cell ADDBSIE)
-    ⨾ when (Is (cell ADDBSIE) 1)
-    (element addbsil none 6 (cell ADDBSIL)
+    ⨾ end
+
+-- additional information, of a length that is told
+unfoldable pub additional-bsi : Block
+additional-bsi =
+    element addbsil none 6 (cell ADDBSIL)
     ⨾ put (cell WIDTH) (Let 8 8 (cell ADDBSIL))
     ⨾ span addbsi (cell WIDTH)
-    ⨾ end)
+    ⨾ end
+
+-- informational metadata, converter synchronization, and additional bit stream information
+unfoldable pub info : Block
+info =
+    element infomdate none 1 (cell INFOMDATE)
+    ⨾ when (Is (cell INFOMDATE) 1) informational-metadata
+    ⨾ when (Is (cell STRMTYP) 0) converter-sync
+    ⨾ when (Is (cell STRMTYP) 2) converted-frame
+    ⨾ element addbsie none 1 (cell ADDBSIE)
+    ⨾ when (Is (cell ADDBSIE) 1) additional-bsi
     ⨾ end
 
 unfoldable pub bsi : Block

@@ -5,4 +5,3 @@ pub mod Bsi
 pub mod Audfrm
 pub mod Audblk
 pub mod Annex
-pub mod Rows

@@ -1,66 +1,45 @@
 // audblk in code (specs/Audblk of crate annex).
+pub mod parts;
+pub mod rows;
 pub mod turns;
 
 ghost use mathlib.Core.Path.{_≡_};
-ghost use Prim.Native.Nat.{_+_, _*_, _≤_};
 ghost use Rattle.reading.specs.Room.{room};
 ghost use Rattle.walk.specs.Cells.{state};
-ghost use Rattle.walk.specs.Rows.{holdsOf};
-ghost use Rattle.walk.specs.Syntax.{put as putOf, when, cell, end, _⨾_};
+ghost use Rattle.walk.specs.Syntax.{when, cell, end, _⨾_};
 ghost use Rattle.walk.specs.declared.table.Cond.the-variants.{Is};
-ghost use Rattle.walk.specs.declared.table.Value.the-variants.{Let};
-ghost use Rattle.annex.specs.Audblk.{audblk-dynamics, audblk-coupling, audblk-exponents, audblk-mantissas, no-spx-channel, no-spx as no-spx-of, spx-use, dynamics as dynamicsOf, spx-strategy, spx-coordinates, cpl-strategy, cpl-coordinates, rematrixing as rematrixingOf, bandwidth as bandwidthOf, exponents as exponentsOf, parameters as parametersOf, deltas as deltasOf, mantissas-of-block, audblk as audblkOf};
+ghost use Rattle.annex.specs.Audblk.{audblk-dynamics, audblk-coupling, audblk-exponents, audblk-mantissas, no-spx-channel, no-spx as no-spx-of, spx-use, dynamics as dynamicsOf, spx-strategy, spx-coordinates, cpl-strategy, cpl-coordinates, rematrixing as rematrixingOf, deltas as deltasOf, audblk as audblkOf};
 ghost use Rattle.annex.specs.Cells.{SPXINU, SPXSTRE};
-ghost use Rattle.page.specs.Page.{Runs, Calms, Page, Paged};
-ghost use Rattle.audblk.specs.Parts.{Marks};
+ghost use Rattle.page.specs.Page.{Runs, Calms, Ready};
 use annex::cells as c;
+use bai::mantissas;
+use bai::parameters;
 use bits::BitPlace;
+use exps::bandwidth;
+use exps::exponents;
 use names::numbers as n;
 use page::is;
+use page::is_at;
 use page::is_not;
+use page::mark;
 use page::plain;
 use page::plain_when;
-use page::rows_on;
-use page::rows_when;
+use page::set_at;
 use page::set_by;
 use page::set_when;
+use parts::block_switches;
+use parts::cpl_coordinates_of;
+use parts::cpl_use;
+use parts::delta_segments;
+use parts::dither_flags;
+use parts::rematrixing_bands;
+use parts::second_dynamics;
+use parts::skip_field;
+use parts::spx_bands;
+use parts::spx_coordinates_of;
 use syntax::Cursor;
 use walk::cells::Addr;
-use walk::cells::held;
-use walk::cells::place;
 use walk::cells::put;
-
-// A condition on a cell of an array.
-fn is_at(cells: &[u16; 640], a: Addr, v: u16) -> bool
-    ensures { λ r. ⌜ r ≡ holdsOf (Is a v) (now (cells .entry)) ⌝ }
-{
-    held(a, cells) == v
-}
-
-// A number that is made of one cell, put into another.
-fn linear(x: u16, y: u16, v: u16) -> u32
-    requires { ⌜ x ≤ 2047 ⌝ }
-    ensures { λ r. ⌜ r ≡ x + y * v ⌝ }
-{
-    x as u32 + y as u32 * v as u32
-}
-
-fn set_at(cells: &mut [u16; 640], a: Addr, x: u16, y: u16, b: Addr)
-    requires { ⌜ x ≤ 2047 ⌝ }
-    ensures { λ _. ⌜ Calms (putOf a (Let x y b) ⨾ end) (now (cells .entry)) (now (cells .exit)) ⌝ }
-{
-    let k = place(a, cells);
-    let v = linear(x, y, held(b, cells));
-    put(cells, k, v);
-}
-
-// The place of the reading, put into a cell.
-fn mark(cells: &mut [u16; 640], cur: Cursor, a: Addr)
-    ensures { λ _. ⌜ Marks a cur (now (cells .entry)) (now (cells .exit)) ⌝ }
-{
-    let k = place(a, cells);
-    put(cells, k, cur.at.0 as u32);
-}
 
 // Block switch, dither and dynamic range control.
 fn dynamics(
@@ -71,14 +50,13 @@ fn dynamics(
     firsts: &mut [u16],
     widths: &mut [u16],
     values: &mut [u32],
-    table: &[u64; 640],
     cells: &mut [u16; 640],
     bins: &mut [u8; 3584],
     memo: &mut [u8; 2128],
     cur: Cursor,
     limit: BitPlace,
 ) -> Cursor
-    requires { ⌜ Page (now src) (limit .0) (now table) (now bins) (now memo) dynamicsOf 296 311 ⌝ }
+    requires { ⌜ Ready (now src) (limit .0) (now bins) (now memo) ⌝ }
     ensures { λ r. ⌜ Runs (now (src .entry)) (limit .0) dynamicsOf cur (state (now (cells .entry)) (now (bins .entry))) (room (now (names .entry)) (now (blocks .entry)) (now (indexes .entry)) (now (firsts .entry)) (now (widths .entry)) (now (values .entry)))
         r (state (now (cells .exit)) (now (bins .exit))) (room (now (names .exit)) (now (blocks .exit)) (now (indexes .exit)) (now (firsts .exit)) (now (widths .exit)) (now (values .exit))) (now (memo .exit)) ⌝ }
 {
@@ -93,7 +71,7 @@ fn dynamics(
         },
     );
     let switched = is(cells, c::BLKSWE as usize, 1);
-    let a = rows_when(
+    let a = block_switches(
         src,
         names,
         blocks,
@@ -101,18 +79,15 @@ fn dynamics(
         firsts,
         widths,
         values,
-        table,
         cells,
         bins,
         memo,
         cur,
         limit,
         switched,
-        299,
-        301,
     );
     let dithered = is(cells, c::DITHFLAGE as usize, 1);
-    let b = rows_when(
+    let b = dither_flags(
         src,
         names,
         blocks,
@@ -120,15 +95,12 @@ fn dynamics(
         firsts,
         widths,
         values,
-        table,
         cells,
         bins,
         memo,
         a,
         limit,
         dithered,
-        302,
-        304,
     );
     let d = plain(
         src,
@@ -163,7 +135,7 @@ fn dynamics(
         0,
     );
     let second = is(cells, c::ACMOD as usize, 0);
-    rows_when(
+    second_dynamics(
         src,
         names,
         blocks,
@@ -171,15 +143,12 @@ fn dynamics(
         firsts,
         widths,
         values,
-        table,
         cells,
         bins,
         memo,
         e,
         limit,
         second,
-        308,
-        311,
     )
 }
 
@@ -246,14 +215,13 @@ fn spx_use(
     firsts: &mut [u16],
     widths: &mut [u16],
     values: &mut [u32],
-    table: &[u64; 640],
     cells: &mut [u16; 640],
     bins: &mut [u8; 3584],
     memo: &mut [u8; 2128],
     cur: Cursor,
     limit: BitPlace,
 ) -> Cursor
-    requires { ⌜ Page (now src) (limit .0) (now table) (now bins) (now memo) spx-use 316 343 ⌝ }
+    requires { ⌜ Ready (now src) (limit .0) (now bins) (now memo) ⌝ }
     ensures { λ r. ⌜ Runs (now (src .entry)) (limit .0) spx-use cur (state (now (cells .entry)) (now (bins .entry))) (room (now (names .entry)) (now (blocks .entry)) (now (indexes .entry)) (now (firsts .entry)) (now (widths .entry)) (now (values .entry)))
         r (state (now (cells .exit)) (now (bins .exit))) (room (now (names .exit)) (now (blocks .exit)) (now (indexes .exit)) (now (firsts .exit)) (now (widths .exit)) (now (values .exit))) (now (memo .exit)) ⌝ }
 {
@@ -273,7 +241,7 @@ fn spx_use(
         c::SPXINU as usize,
     );
     let on = is(cells, c::SPXINU as usize, 1);
-    let b = rows_when(
+    let b = spx_bands(
         src,
         names,
         blocks,
@@ -281,15 +249,12 @@ fn spx_use(
         firsts,
         widths,
         values,
-        table,
         cells,
         bins,
         memo,
         a,
         limit,
         on,
-        318,
-        339,
     );
     no_spx_when(cells);
     b
@@ -303,14 +268,13 @@ fn spx_when(
     firsts: &mut [u16],
     widths: &mut [u16],
     values: &mut [u32],
-    table: &[u64; 640],
     cells: &mut [u16; 640],
     bins: &mut [u8; 3584],
     memo: &mut [u8; 2128],
     cur: Cursor,
     limit: BitPlace,
 ) -> Cursor
-    requires { ⌜ Page (now src) (limit .0) (now table) (now bins) (now memo) spx-use 316 343 ⌝ }
+    requires { ⌜ Ready (now src) (limit .0) (now bins) (now memo) ⌝ }
     ensures { λ r. ⌜ Runs (now (src .entry)) (limit .0) (when (Is (cell SPXSTRE) 1) spx-use ⨾ end) cur (state (now (cells .entry)) (now (bins .entry))) (room (now (names .entry)) (now (blocks .entry)) (now (indexes .entry)) (now (firsts .entry)) (now (widths .entry)) (now (values .entry)))
         r (state (now (cells .exit)) (now (bins .exit))) (room (now (names .exit)) (now (blocks .exit)) (now (indexes .exit)) (now (firsts .exit)) (now (widths .exit)) (now (values .exit))) (now (memo .exit)) ⌝ }
 {
@@ -323,7 +287,6 @@ fn spx_when(
             firsts,
             widths,
             values,
-            table,
             cells,
             bins,
             memo,
@@ -343,14 +306,13 @@ fn spx(
     firsts: &mut [u16],
     widths: &mut [u16],
     values: &mut [u32],
-    table: &[u64; 640],
     cells: &mut [u16; 640],
     bins: &mut [u8; 3584],
     memo: &mut [u8; 2128],
     cur: Cursor,
     limit: BitPlace,
 ) -> Cursor
-    requires { ⌜ Page (now src) (limit .0) (now table) (now bins) (now memo) spx-strategy 311 343 ⌝ }
+    requires { ⌜ Ready (now src) (limit .0) (now bins) (now memo) ⌝ }
     ensures { λ r. ⌜ Runs (now (src .entry)) (limit .0) spx-strategy cur (state (now (cells .entry)) (now (bins .entry))) (room (now (names .entry)) (now (blocks .entry)) (now (indexes .entry)) (now (firsts .entry)) (now (widths .entry)) (now (values .entry)))
         r (state (now (cells .exit)) (now (bins .exit))) (room (now (names .exit)) (now (blocks .exit)) (now (indexes .exit)) (now (firsts .exit)) (now (widths .exit)) (now (values .exit))) (now (memo .exit)) ⌝ }
 {
@@ -381,7 +343,6 @@ fn spx(
         firsts,
         widths,
         values,
-        table,
         cells,
         bins,
         memo,
@@ -399,19 +360,18 @@ fn spx_coords(
     firsts: &mut [u16],
     widths: &mut [u16],
     values: &mut [u32],
-    table: &[u64; 640],
     cells: &mut [u16; 640],
     bins: &mut [u8; 3584],
     memo: &mut [u8; 2128],
     cur: Cursor,
     limit: BitPlace,
 ) -> Cursor
-    requires { ⌜ Page (now src) (limit .0) (now table) (now bins) (now memo) spx-coordinates 343 364 ⌝ }
+    requires { ⌜ Ready (now src) (limit .0) (now bins) (now memo) ⌝ }
     ensures { λ r. ⌜ Runs (now (src .entry)) (limit .0) spx-coordinates cur (state (now (cells .entry)) (now (bins .entry))) (room (now (names .entry)) (now (blocks .entry)) (now (indexes .entry)) (now (firsts .entry)) (now (widths .entry)) (now (values .entry)))
         r (state (now (cells .exit)) (now (bins .exit))) (room (now (names .exit)) (now (blocks .exit)) (now (indexes .exit)) (now (firsts .exit)) (now (widths .exit)) (now (values .exit))) (now (memo .exit)) ⌝ }
 {
     let on = is(cells, c::SPXINU as usize, 1);
-    rows_when(
+    spx_coordinates_of(
         src,
         names,
         blocks,
@@ -419,15 +379,12 @@ fn spx_coords(
         firsts,
         widths,
         values,
-        table,
         cells,
         bins,
         memo,
         cur,
         limit,
         on,
-        344,
-        364,
     )
 }
 
@@ -440,14 +397,13 @@ fn cpl(
     firsts: &mut [u16],
     widths: &mut [u16],
     values: &mut [u32],
-    table: &[u64; 640],
     cells: &mut [u16; 640],
     bins: &mut [u8; 3584],
     memo: &mut [u8; 2128],
     cur: Cursor,
     limit: BitPlace,
 ) -> Cursor
-    requires { ⌜ Page (now src) (limit .0) (now table) (now bins) (now memo) cpl-strategy 364 405 ⌝ }
+    requires { ⌜ Ready (now src) (limit .0) (now bins) (now memo) ⌝ }
     ensures { λ r. ⌜ Runs (now (src .entry)) (limit .0) cpl-strategy cur (state (now (cells .entry)) (now (bins .entry))) (room (now (names .entry)) (now (blocks .entry)) (now (indexes .entry)) (now (firsts .entry)) (now (widths .entry)) (now (values .entry)))
         r (state (now (cells .exit)) (now (bins .exit))) (room (now (names .exit)) (now (blocks .exit)) (now (indexes .exit)) (now (firsts .exit)) (now (widths .exit)) (now (values .exit))) (now (memo .exit)) ⌝ }
 {
@@ -475,7 +431,7 @@ fn cpl(
         },
         1,
     );
-    rows_when(
+    cpl_use(
         src,
         names,
         blocks,
@@ -483,15 +439,12 @@ fn cpl(
         firsts,
         widths,
         values,
-        table,
         cells,
         bins,
         memo,
         cur,
         limit,
         on,
-        366,
-        405,
     )
 }
 
@@ -504,19 +457,18 @@ fn cpl_coords(
     firsts: &mut [u16],
     widths: &mut [u16],
     values: &mut [u32],
-    table: &[u64; 640],
     cells: &mut [u16; 640],
     bins: &mut [u8; 3584],
     memo: &mut [u8; 2128],
     cur: Cursor,
     limit: BitPlace,
 ) -> Cursor
-    requires { ⌜ Page (now src) (limit .0) (now table) (now bins) (now memo) cpl-coordinates 405 430 ⌝ }
+    requires { ⌜ Ready (now src) (limit .0) (now bins) (now memo) ⌝ }
     ensures { λ r. ⌜ Runs (now (src .entry)) (limit .0) cpl-coordinates cur (state (now (cells .entry)) (now (bins .entry))) (room (now (names .entry)) (now (blocks .entry)) (now (indexes .entry)) (now (firsts .entry)) (now (widths .entry)) (now (values .entry)))
         r (state (now (cells .exit)) (now (bins .exit))) (room (now (names .exit)) (now (blocks .exit)) (now (indexes .exit)) (now (firsts .exit)) (now (widths .exit)) (now (values .exit))) (now (memo .exit)) ⌝ }
 {
     let on = is(cells, c::CPLINU as usize, 1);
-    rows_when(
+    cpl_coordinates_of(
         src,
         names,
         blocks,
@@ -524,15 +476,12 @@ fn cpl_coords(
         firsts,
         widths,
         values,
-        table,
         cells,
         bins,
         memo,
         cur,
         limit,
         on,
-        406,
-        430,
     )
 }
 
@@ -545,19 +494,18 @@ fn rematrixing(
     firsts: &mut [u16],
     widths: &mut [u16],
     values: &mut [u32],
-    table: &[u64; 640],
     cells: &mut [u16; 640],
     bins: &mut [u8; 3584],
     memo: &mut [u8; 2128],
     cur: Cursor,
     limit: BitPlace,
 ) -> Cursor
-    requires { ⌜ Page (now src) (limit .0) (now table) (now bins) (now memo) rematrixingOf 430 448 ⌝ }
+    requires { ⌜ Ready (now src) (limit .0) (now bins) (now memo) ⌝ }
     ensures { λ r. ⌜ Runs (now (src .entry)) (limit .0) rematrixingOf cur (state (now (cells .entry)) (now (bins .entry))) (room (now (names .entry)) (now (blocks .entry)) (now (indexes .entry)) (now (firsts .entry)) (now (widths .entry)) (now (values .entry)))
         r (state (now (cells .exit)) (now (bins .exit))) (room (now (names .exit)) (now (blocks .exit)) (now (indexes .exit)) (now (firsts .exit)) (now (widths .exit)) (now (values .exit))) (now (memo .exit)) ⌝ }
 {
     let on = is(cells, c::ACMOD as usize, 2);
-    rows_when(
+    rematrixing_bands(
         src,
         names,
         blocks,
@@ -565,132 +513,12 @@ fn rematrixing(
         firsts,
         widths,
         values,
-        table,
         cells,
         bins,
         memo,
         cur,
         limit,
         on,
-        431,
-        448,
-    )
-}
-
-// Channel bandwidth codes.
-fn bandwidth(
-    src: &[u8],
-    names: &mut [u8],
-    blocks: &mut [i8],
-    indexes: &mut [i16],
-    firsts: &mut [u16],
-    widths: &mut [u16],
-    values: &mut [u32],
-    table: &[u64; 640],
-    cells: &mut [u16; 640],
-    bins: &mut [u8; 3584],
-    memo: &mut [u8; 2128],
-    cur: Cursor,
-    limit: BitPlace,
-) -> Cursor
-    requires { ⌜ Page (now src) (limit .0) (now table) (now bins) (now memo) bandwidthOf 448 471 ⌝ }
-    ensures { λ r. ⌜ Runs (now (src .entry)) (limit .0) bandwidthOf cur (state (now (cells .entry)) (now (bins .entry))) (room (now (names .entry)) (now (blocks .entry)) (now (indexes .entry)) (now (firsts .entry)) (now (widths .entry)) (now (values .entry)))
-        r (state (now (cells .exit)) (now (bins .exit))) (room (now (names .exit)) (now (blocks .exit)) (now (indexes .exit)) (now (firsts .exit)) (now (widths .exit)) (now (values .exit))) (now (memo .exit)) ⌝ }
-{
-    rows_on(
-        src,
-        names,
-        blocks,
-        indexes,
-        firsts,
-        widths,
-        values,
-        table,
-        cells,
-        bins,
-        memo,
-        cur,
-        limit,
-        448,
-        471,
-    )
-}
-
-// Exponents.
-fn exponents(
-    src: &[u8],
-    names: &mut [u8],
-    blocks: &mut [i8],
-    indexes: &mut [i16],
-    firsts: &mut [u16],
-    widths: &mut [u16],
-    values: &mut [u32],
-    table: &[u64; 640],
-    cells: &mut [u16; 640],
-    bins: &mut [u8; 3584],
-    memo: &mut [u8; 2128],
-    cur: Cursor,
-    limit: BitPlace,
-) -> Cursor
-    requires { ⌜ Page (now src) (limit .0) (now table) (now bins) (now memo) exponentsOf 471 518 ⌝ }
-    ensures { λ r. ⌜ Runs (now (src .entry)) (limit .0) exponentsOf cur (state (now (cells .entry)) (now (bins .entry))) (room (now (names .entry)) (now (blocks .entry)) (now (indexes .entry)) (now (firsts .entry)) (now (widths .entry)) (now (values .entry)))
-        r (state (now (cells .exit)) (now (bins .exit))) (room (now (names .exit)) (now (blocks .exit)) (now (indexes .exit)) (now (firsts .exit)) (now (widths .exit)) (now (values .exit))) (now (memo .exit)) ⌝ }
-{
-    rows_on(
-        src,
-        names,
-        blocks,
-        indexes,
-        firsts,
-        widths,
-        values,
-        table,
-        cells,
-        bins,
-        memo,
-        cur,
-        limit,
-        471,
-        518,
-    )
-}
-
-// Bit allocation parametric information.
-fn parameters(
-    src: &[u8],
-    names: &mut [u8],
-    blocks: &mut [i8],
-    indexes: &mut [i16],
-    firsts: &mut [u16],
-    widths: &mut [u16],
-    values: &mut [u32],
-    table: &[u64; 640],
-    cells: &mut [u16; 640],
-    bins: &mut [u8; 3584],
-    memo: &mut [u8; 2128],
-    cur: Cursor,
-    limit: BitPlace,
-) -> Cursor
-    requires { ⌜ Page (now src) (limit .0) (now table) (now bins) (now memo) parametersOf 518 579 ⌝ }
-    ensures { λ r. ⌜ Runs (now (src .entry)) (limit .0) parametersOf cur (state (now (cells .entry)) (now (bins .entry))) (room (now (names .entry)) (now (blocks .entry)) (now (indexes .entry)) (now (firsts .entry)) (now (widths .entry)) (now (values .entry)))
-        r (state (now (cells .exit)) (now (bins .exit))) (room (now (names .exit)) (now (blocks .exit)) (now (indexes .exit)) (now (firsts .exit)) (now (widths .exit)) (now (values .exit))) (now (memo .exit)) ⌝ }
-{
-    rows_on(
-        src,
-        names,
-        blocks,
-        indexes,
-        firsts,
-        widths,
-        values,
-        table,
-        cells,
-        bins,
-        memo,
-        cur,
-        limit,
-        518,
-        579,
     )
 }
 
@@ -703,19 +531,18 @@ fn deltas(
     firsts: &mut [u16],
     widths: &mut [u16],
     values: &mut [u32],
-    table: &[u64; 640],
     cells: &mut [u16; 640],
     bins: &mut [u8; 3584],
     memo: &mut [u8; 2128],
     cur: Cursor,
     limit: BitPlace,
 ) -> Cursor
-    requires { ⌜ Page (now src) (limit .0) (now table) (now bins) (now memo) deltasOf 579 614 ⌝ }
+    requires { ⌜ Ready (now src) (limit .0) (now bins) (now memo) ⌝ }
     ensures { λ r. ⌜ Runs (now (src .entry)) (limit .0) deltasOf cur (state (now (cells .entry)) (now (bins .entry))) (room (now (names .entry)) (now (blocks .entry)) (now (indexes .entry)) (now (firsts .entry)) (now (widths .entry)) (now (values .entry)))
         r (state (now (cells .exit)) (now (bins .exit))) (room (now (names .exit)) (now (blocks .exit)) (now (indexes .exit)) (now (firsts .exit)) (now (widths .exit)) (now (values .exit))) (now (memo .exit)) ⌝ }
 {
     let sent = is(cells, c::DBAFLDE as usize, 1);
-    let a = rows_when(
+    let a = delta_segments(
         src,
         names,
         blocks,
@@ -723,18 +550,15 @@ fn deltas(
         firsts,
         widths,
         values,
-        table,
         cells,
         bins,
         memo,
         cur,
         limit,
         sent,
-        580,
-        608,
     );
     let skipped = is(cells, c::SKIPFLDE as usize, 1);
-    rows_when(
+    skip_field(
         src,
         names,
         blocks,
@@ -742,54 +566,12 @@ fn deltas(
         firsts,
         widths,
         values,
-        table,
         cells,
         bins,
         memo,
         a,
         limit,
         skipped,
-        609,
-        614,
-    )
-}
-
-// The allocation and the mantissas.
-fn mantissas(
-    src: &[u8],
-    names: &mut [u8],
-    blocks: &mut [i8],
-    indexes: &mut [i16],
-    firsts: &mut [u16],
-    widths: &mut [u16],
-    values: &mut [u32],
-    table: &[u64; 640],
-    cells: &mut [u16; 640],
-    bins: &mut [u8; 3584],
-    memo: &mut [u8; 2128],
-    cur: Cursor,
-    limit: BitPlace,
-) -> Cursor
-    requires { ⌜ Page (now src) (limit .0) (now table) (now bins) (now memo) mantissas-of-block 614 628 ⌝ }
-    ensures { λ r. ⌜ Runs (now (src .entry)) (limit .0) mantissas-of-block cur (state (now (cells .entry)) (now (bins .entry))) (room (now (names .entry)) (now (blocks .entry)) (now (indexes .entry)) (now (firsts .entry)) (now (widths .entry)) (now (values .entry)))
-        r (state (now (cells .exit)) (now (bins .exit))) (room (now (names .exit)) (now (blocks .exit)) (now (indexes .exit)) (now (firsts .exit)) (now (widths .exit)) (now (values .exit))) (now (memo .exit)) ⌝ }
-{
-    rows_on(
-        src,
-        names,
-        blocks,
-        indexes,
-        firsts,
-        widths,
-        values,
-        table,
-        cells,
-        bins,
-        memo,
-        cur,
-        limit,
-        614,
-        628,
     )
 }
 
@@ -802,14 +584,13 @@ fn block_dynamics(
     firsts: &mut [u16],
     widths: &mut [u16],
     values: &mut [u32],
-    table: &[u64; 640],
     cells: &mut [u16; 640],
     bins: &mut [u8; 3584],
     memo: &mut [u8; 2128],
     cur: Cursor,
     limit: BitPlace,
 ) -> Cursor
-    requires { ⌜ Page (now src) (limit .0) (now table) (now bins) (now memo) audblk-dynamics 296 364 ⌝ }
+    requires { ⌜ Ready (now src) (limit .0) (now bins) (now memo) ⌝ }
     ensures { λ r. ⌜ Runs (now (src .entry)) (limit .0) audblk-dynamics cur (state (now (cells .entry)) (now (bins .entry))) (room (now (names .entry)) (now (blocks .entry)) (now (indexes .entry)) (now (firsts .entry)) (now (widths .entry)) (now (values .entry)))
         r (state (now (cells .exit)) (now (bins .exit))) (room (now (names .exit)) (now (blocks .exit)) (now (indexes .exit)) (now (firsts .exit)) (now (widths .exit)) (now (values .exit))) (now (memo .exit)) ⌝ }
 {
@@ -821,7 +602,6 @@ fn block_dynamics(
         firsts,
         widths,
         values,
-        table,
         cells,
         bins,
         memo,
@@ -836,7 +616,6 @@ fn block_dynamics(
         firsts,
         widths,
         values,
-        table,
         cells,
         bins,
         memo,
@@ -851,7 +630,6 @@ fn block_dynamics(
         firsts,
         widths,
         values,
-        table,
         cells,
         bins,
         memo,
@@ -868,14 +646,13 @@ fn block_coupling(
     firsts: &mut [u16],
     widths: &mut [u16],
     values: &mut [u32],
-    table: &[u64; 640],
     cells: &mut [u16; 640],
     bins: &mut [u8; 3584],
     memo: &mut [u8; 2128],
     cur: Cursor,
     limit: BitPlace,
 ) -> Cursor
-    requires { ⌜ Page (now src) (limit .0) (now table) (now bins) (now memo) audblk-coupling 364 448 ⌝ }
+    requires { ⌜ Ready (now src) (limit .0) (now bins) (now memo) ⌝ }
     ensures { λ r. ⌜ Runs (now (src .entry)) (limit .0) audblk-coupling cur (state (now (cells .entry)) (now (bins .entry))) (room (now (names .entry)) (now (blocks .entry)) (now (indexes .entry)) (now (firsts .entry)) (now (widths .entry)) (now (values .entry)))
         r (state (now (cells .exit)) (now (bins .exit))) (room (now (names .exit)) (now (blocks .exit)) (now (indexes .exit)) (now (firsts .exit)) (now (widths .exit)) (now (values .exit))) (now (memo .exit)) ⌝ }
 {
@@ -887,7 +664,6 @@ fn block_coupling(
         firsts,
         widths,
         values,
-        table,
         cells,
         bins,
         memo,
@@ -902,7 +678,6 @@ fn block_coupling(
         firsts,
         widths,
         values,
-        table,
         cells,
         bins,
         memo,
@@ -917,7 +692,6 @@ fn block_coupling(
         firsts,
         widths,
         values,
-        table,
         cells,
         bins,
         memo,
@@ -934,14 +708,13 @@ fn block_exponents(
     firsts: &mut [u16],
     widths: &mut [u16],
     values: &mut [u32],
-    table: &[u64; 640],
     cells: &mut [u16; 640],
     bins: &mut [u8; 3584],
     memo: &mut [u8; 2128],
     cur: Cursor,
     limit: BitPlace,
 ) -> Cursor
-    requires { ⌜ Page (now src) (limit .0) (now table) (now bins) (now memo) audblk-exponents 448 579 ⌝ }
+    requires { ⌜ Ready (now src) (limit .0) (now bins) (now memo) ⌝ }
     ensures { λ r. ⌜ Runs (now (src .entry)) (limit .0) audblk-exponents cur (state (now (cells .entry)) (now (bins .entry))) (room (now (names .entry)) (now (blocks .entry)) (now (indexes .entry)) (now (firsts .entry)) (now (widths .entry)) (now (values .entry)))
         r (state (now (cells .exit)) (now (bins .exit))) (room (now (names .exit)) (now (blocks .exit)) (now (indexes .exit)) (now (firsts .exit)) (now (widths .exit)) (now (values .exit))) (now (memo .exit)) ⌝ }
 {
@@ -953,10 +726,7 @@ fn block_exponents(
         firsts,
         widths,
         values,
-        table,
         cells,
-        bins,
-        memo,
         cur,
         limit,
     );
@@ -968,7 +738,6 @@ fn block_exponents(
         firsts,
         widths,
         values,
-        table,
         cells,
         bins,
         memo,
@@ -983,7 +752,6 @@ fn block_exponents(
         firsts,
         widths,
         values,
-        table,
         cells,
         bins,
         memo,
@@ -1000,14 +768,13 @@ fn block_mantissas(
     firsts: &mut [u16],
     widths: &mut [u16],
     values: &mut [u32],
-    table: &[u64; 640],
     cells: &mut [u16; 640],
     bins: &mut [u8; 3584],
     memo: &mut [u8; 2128],
     cur: Cursor,
     limit: BitPlace,
 ) -> Cursor
-    requires { ⌜ Page (now src) (limit .0) (now table) (now bins) (now memo) audblk-mantissas 579 628 ⌝ }
+    requires { ⌜ Ready (now src) (limit .0) (now bins) (now memo) ⌝ }
     ensures { λ r. ⌜ Runs (now (src .entry)) (limit .0) audblk-mantissas cur (state (now (cells .entry)) (now (bins .entry))) (room (now (names .entry)) (now (blocks .entry)) (now (indexes .entry)) (now (firsts .entry)) (now (widths .entry)) (now (values .entry)))
         r (state (now (cells .exit)) (now (bins .exit))) (room (now (names .exit)) (now (blocks .exit)) (now (indexes .exit)) (now (firsts .exit)) (now (widths .exit)) (now (values .exit))) (now (memo .exit)) ⌝ }
 {
@@ -1019,7 +786,6 @@ fn block_mantissas(
         firsts,
         widths,
         values,
-        table,
         cells,
         bins,
         memo,
@@ -1034,7 +800,6 @@ fn block_mantissas(
         firsts,
         widths,
         values,
-        table,
         cells,
         bins,
         memo,
@@ -1052,14 +817,13 @@ pub fn audblk(
     firsts: &mut [u16],
     widths: &mut [u16],
     values: &mut [u32],
-    table: &[u64; 640],
     cells: &mut [u16; 640],
     bins: &mut [u8; 3584],
     memo: &mut [u8; 2128],
     cur: Cursor,
     limit: BitPlace,
 ) -> Cursor
-    requires { ⌜ Page (now src) (limit .0) (now table) (now bins) (now memo) audblkOf 296 628 ⌝ }
+    requires { ⌜ Ready (now src) (limit .0) (now bins) (now memo) ⌝ }
     ensures { λ r. ⌜ Runs (now (src .entry)) (limit .0) audblkOf cur (state (now (cells .entry)) (now (bins .entry))) (room (now (names .entry)) (now (blocks .entry)) (now (indexes .entry)) (now (firsts .entry)) (now (widths .entry)) (now (values .entry)))
         r (state (now (cells .exit)) (now (bins .exit))) (room (now (names .exit)) (now (blocks .exit)) (now (indexes .exit)) (now (firsts .exit)) (now (widths .exit)) (now (values .exit))) (now (memo .exit)) ⌝ }
 {
@@ -1071,7 +835,6 @@ pub fn audblk(
         firsts,
         widths,
         values,
-        table,
         cells,
         bins,
         memo,
@@ -1086,7 +849,6 @@ pub fn audblk(
         firsts,
         widths,
         values,
-        table,
         cells,
         bins,
         memo,
@@ -1101,7 +863,6 @@ pub fn audblk(
         firsts,
         widths,
         values,
-        table,
         cells,
         bins,
         memo,
@@ -1116,7 +877,6 @@ pub fn audblk(
         firsts,
         widths,
         values,
-        table,
         cells,
         bins,
         memo,

@@ -6,11 +6,11 @@ ghost use Rattle.walk.specs.Rows.{holdsOf};
 ghost use Rattle.walk.specs.Syntax.{cell};
 ghost use Rattle.walk.specs.declared.table.Cond.the-variants.{Over};
 ghost use Rattle.annex.specs.Annex.{block-of, blocks-of, audblks as audblksOf};
-ghost use Rattle.page.specs.Page.{Page, Runs};
+ghost use Rattle.page.specs.Page.{Ready, Runs};
 use crate::audblk;
-use crate::mark;
 use annex::cells as c;
 use bits::BitPlace;
+use page::mark;
 use page::set;
 use syntax::Cursor;
 use walk::cells::Addr;
@@ -33,14 +33,13 @@ fn block(
     firsts: &mut [u16],
     widths: &mut [u16],
     values: &mut [u32],
-    table: &[u64; 640],
     cells: &mut [u16; 640],
     bins: &mut [u8; 3584],
     memo: &mut [u8; 2128],
     cur: Cursor,
     limit: BitPlace,
 ) -> Cursor
-    requires { ⌜ Page (now src) (limit .0) (now table) (now bins) (now memo) block-of 295 628 ⌝ }
+    requires { ⌜ Ready (now src) (limit .0) (now bins) (now memo) ⌝ }
     ensures { λ r. ⌜ Runs (now (src .entry)) (limit .0) block-of cur (state (now (cells .entry)) (now (bins .entry))) (room (now (names .entry)) (now (blocks .entry)) (now (indexes .entry)) (now (firsts .entry)) (now (widths .entry)) (now (values .entry)))
         r (state (now (cells .exit)) (now (bins .exit))) (room (now (names .exit)) (now (blocks .exit)) (now (indexes .exit)) (now (firsts .exit)) (now (widths .exit)) (now (values .exit))) (now (memo .exit)) ⌝ }
 {
@@ -53,7 +52,6 @@ fn block(
             firsts,
             widths,
             values,
-            table,
             cells,
             bins,
             memo,
@@ -73,14 +71,13 @@ fn each_block(
     firsts: &mut [u16],
     widths: &mut [u16],
     values: &mut [u32],
-    table: &[u64; 640],
     cells: &mut [u16; 640],
     bins: &mut [u8; 3584],
     memo: &mut [u8; 2128],
     cur: Cursor,
     limit: BitPlace,
 ) -> Cursor
-    requires { ⌜ Page (now src) (limit .0) (now table) (now bins) (now memo) blocks-of 294 628 ⌝ }
+    requires { ⌜ Ready (now src) (limit .0) (now bins) (now memo) ⌝ }
     ensures { λ r. ⌜ Runs (now (src .entry)) (limit .0) blocks-of cur (state (now (cells .entry)) (now (bins .entry))) (room (now (names .entry)) (now (blocks .entry)) (now (indexes .entry)) (now (firsts .entry)) (now (widths .entry)) (now (values .entry)))
         r (state (now (cells .exit)) (now (bins .exit))) (room (now (names .exit)) (now (blocks .exit)) (now (indexes .exit)) (now (firsts .exit)) (now (widths .exit)) (now (values .exit))) (now (memo .exit)) ⌝ }
 {
@@ -96,7 +93,6 @@ fn each_block(
             firsts,
             widths,
             values,
-            table,
             cells,
             bins,
             memo,
@@ -117,14 +113,13 @@ pub fn audblks(
     firsts: &mut [u16],
     widths: &mut [u16],
     values: &mut [u32],
-    table: &[u64; 640],
     cells: &mut [u16; 640],
     bins: &mut [u8; 3584],
     memo: &mut [u8; 2128],
     cur: Cursor,
     limit: BitPlace,
 ) -> Cursor
-    requires { ⌜ Page (now src) (limit .0) (now table) (now bins) (now memo) audblksOf 294 630 ⌝ }
+    requires { ⌜ Ready (now src) (limit .0) (now bins) (now memo) ⌝ }
     ensures { λ r. ⌜ Runs (now (src .entry)) (limit .0) audblksOf cur (state (now (cells .entry)) (now (bins .entry))) (room (now (names .entry)) (now (blocks .entry)) (now (indexes .entry)) (now (firsts .entry)) (now (widths .entry)) (now (values .entry)))
         r (state (now (cells .exit)) (now (bins .exit))) (room (now (names .exit)) (now (blocks .exit)) (now (indexes .exit)) (now (firsts .exit)) (now (widths .exit)) (now (values .exit))) (now (memo .exit)) ⌝ }
 {
@@ -136,7 +131,6 @@ pub fn audblks(
         firsts,
         widths,
         values,
-        table,
         cells,
         bins,
         memo,

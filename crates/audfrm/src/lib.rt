@@ -1,17 +1,18 @@
 // audfrm in code (specs/Audfrm of crate annex).
-ghost use mathlib.Core.Path.{_≡_};
+pub mod parts;
+pub mod rows;
+
 ghost use Prim.Native.Nat.{_*_, _≤_};
 ghost use lib.ListN.{length};
 ghost use Rattle.reading.specs.Room.{room};
 ghost use Rattle.walk.specs.Cells.{state};
 ghost use Rattle.walk.specs.CellNames.{LFEON, NFCHANS, NUMBLKS, SLOT};
-ghost use Rattle.walk.specs.Rows.{holdsOf};
-ghost use Rattle.walk.specs.Syntax.{each, when, end, _⨾_, at, cell, from};
+ghost use Rattle.walk.specs.Syntax.{each, when, end, _⨾_, cell, from};
 ghost use Rattle.walk.specs.declared.table.Cond.the-variants.{Is, Not};
 ghost use Rattle.walk.specs.declared.table.Count.the-variants.{Fixed, Held};
 ghost use Rattle.annex.specs.Cells.{BLK, CH, CONVEXPSTRE, EXPSTRE, NUMBLKSCOD, SNROFFSTSTR, STRMTYP};
 ghost use Rattle.annex.specs.Audfrm.{expstre-sent, expstre-known, strategy-flags, block-flags, field-flags, frame-flags, cplblk-counted, ncplblks-by, flags as flagsOf, cplexpstr-by, chexpstr-by, expstr-by, block-strategies, lfeexpstr-by, lfe-strategies, convexpstr-by, conv-codes, conv-strategies, strategies as strategiesOf, hybrid as hybridOf, fsnroffst-by, snroffsts, offsets as offsetsOf, audfrm as audfrmOf};
-ghost use Rattle.page.specs.Page.{Reads, Runs, Calms, Page};
+ghost use Rattle.page.specs.Page.{Reads, Runs, Calms, Ready};
 use annex::cells as c;
 use bits::BitPlace;
 use names::numbers as n;
@@ -19,25 +20,24 @@ use page::above;
 use page::derive;
 use page::element;
 use page::is;
+use page::is_at;
 use page::is_not;
 use page::plain;
 use page::plain_when;
 use page::reject;
-use page::rows_when;
 use page::set;
 use page::set_by;
 use page::set_when;
+use parts::block_start_info;
+use parts::coupling_blocks;
+use parts::frame_strategies;
+use parts::hybrid_slots;
+use parts::spx_attenuation;
+use parts::transient_processing;
 use syntax::Cursor;
+use walk::cells::Addr;
 use walk::cells::cell_of;
 use walk::cells::put;
-
-// A condition on a cell of an array.
-fn is_at(cells: &[u16; 640], base: usize, by: usize, v: u16) -> bool
-    requires { ⌜ base ≤ 640 ⌝ }
-    ensures { λ r. ⌜ r ≡ holdsOf (Is (at base by) v) (now (cells .entry)) ⌝ }
-{
-    cell_of(cells, base + cell_of(cells, by) as usize) == v
-}
 
 // expstre and ahte, as sent.
 fn sent(
@@ -389,7 +389,15 @@ fn frame_flags(
 fn counted(cells: &mut [u16; 640])
     ensures { λ _. ⌜ Calms cplblk-counted (now (cells .entry)) (now (cells .exit)) ⌝ }
 {
-    if is_at(cells, c::CPLINUS as usize, c::BLK as usize, 1) {
+    if is_at(
+        cells,
+        Addr {
+            base: c::CPLINUS as u16,
+            by: c::BLK as u16,
+            row: 0,
+        },
+        1,
+    ) {
         set_by(cells, c::NCPLBLKS as usize, 1, 1, c::NCPLBLKS as usize);
     }
 }
@@ -422,14 +430,13 @@ pub fn flags(
     firsts: &mut [u16],
     widths: &mut [u16],
     values: &mut [u32],
-    table: &[u64; 640],
     cells: &mut [u16; 640],
     bins: &mut [u8; 3584],
     memo: &mut [u8; 2128],
     cur: Cursor,
     limit: BitPlace,
 ) -> Cursor
-    requires { ⌜ Page (now src) (limit .0) (now table) (now bins) (now memo) flagsOf 189 219 ⌝ }
+    requires { ⌜ Ready (now src) (limit .0) (now bins) (now memo) ⌝ }
     ensures { λ r. ⌜ Runs (now (src .entry)) (limit .0) flagsOf cur (state (now (cells .entry)) (now (bins .entry))) (room (now (names .entry)) (now (blocks .entry)) (now (indexes .entry)) (now (firsts .entry)) (now (widths .entry)) (now (values .entry)))
         r (state (now (cells .exit)) (now (bins .exit))) (room (now (names .exit)) (now (blocks .exit)) (now (indexes .exit)) (now (firsts .exit)) (now (widths .exit)) (now (values .exit))) (now (memo .exit)) ⌝ }
 {
@@ -459,7 +466,7 @@ pub fn flags(
         limit,
     );
     let more = above(cells, c::ACMOD as usize, 1);
-    let e = rows_when(
+    let e = coupling_blocks(
         src,
         names,
         blocks,
@@ -467,15 +474,12 @@ pub fn flags(
         firsts,
         widths,
         values,
-        table,
         cells,
         bins,
         memo,
         d,
         limit,
         more,
-        207,
-        215,
     );
     ncplblks(cells);
     e
@@ -498,7 +502,15 @@ fn cplexpstr(
     ensures { λ r. ⌜ Reads (now (src .entry)) (limit .0) cplexpstr-by cur (now (cells .entry)) (room (now (names .entry)) (now (blocks .entry)) (now (indexes .entry)) (now (firsts .entry)) (now (widths .entry)) (now (values .entry)))
         r (now (cells .exit)) (room (now (names .exit)) (now (blocks .exit)) (now (indexes .exit)) (now (firsts .exit)) (now (widths .exit)) (now (values .exit))) ⌝ }
 {
-    if is_at(cells, c::CPLINUS as usize, c::BLK as usize, 1) {
+    if is_at(
+        cells,
+        Addr {
+            base: c::CPLINUS as u16,
+            by: c::BLK as u16,
+            row: 0,
+        },
+        1,
+    ) {
         let blk = cell_of(cells, c::BLK as usize);
         let index = 1 + blk as u32;
         let k = c::CPLEXPSTR as usize + blk as usize;
@@ -1021,14 +1033,13 @@ pub fn strategies(
     firsts: &mut [u16],
     widths: &mut [u16],
     values: &mut [u32],
-    table: &[u64; 640],
     cells: &mut [u16; 640],
     bins: &mut [u8; 3584],
     memo: &mut [u8; 2128],
     cur: Cursor,
     limit: BitPlace,
 ) -> Cursor
-    requires { ⌜ Page (now src) (limit .0) (now table) (now bins) (now memo) strategiesOf 219 248 ⌝ }
+    requires { ⌜ Ready (now src) (limit .0) (now bins) (now memo) ⌝ }
     ensures { λ r. ⌜ Runs (now (src .entry)) (limit .0) strategiesOf cur (state (now (cells .entry)) (now (bins .entry))) (room (now (names .entry)) (now (blocks .entry)) (now (indexes .entry)) (now (firsts .entry)) (now (widths .entry)) (now (values .entry)))
         r (state (now (cells .exit)) (now (bins .exit))) (room (now (names .exit)) (now (blocks .exit)) (now (indexes .exit)) (now (firsts .exit)) (now (widths .exit)) (now (values .exit))) (now (memo .exit)) ⌝ }
 {
@@ -1045,7 +1056,7 @@ pub fn strategies(
         limit,
     );
     let one = is(cells, c::EXPSTRE as usize, 0);
-    let b = rows_when(
+    let b = frame_strategies(
         src,
         names,
         blocks,
@@ -1053,15 +1064,12 @@ pub fn strategies(
         firsts,
         widths,
         values,
-        table,
         cells,
         bins,
         memo,
         a,
         limit,
         one,
-        226,
-        237,
     );
     let d = lfeexpstrs_when(
         src,
@@ -1098,19 +1106,18 @@ pub fn hybrid(
     firsts: &mut [u16],
     widths: &mut [u16],
     values: &mut [u32],
-    table: &[u64; 640],
     cells: &mut [u16; 640],
     bins: &mut [u8; 3584],
     memo: &mut [u8; 2128],
     cur: Cursor,
     limit: BitPlace,
 ) -> Cursor
-    requires { ⌜ Page (now src) (limit .0) (now table) (now bins) (now memo) hybridOf 248 273 ⌝ }
+    requires { ⌜ Ready (now src) (limit .0) (now bins) (now memo) ⌝ }
     ensures { λ r. ⌜ Runs (now (src .entry)) (limit .0) hybridOf cur (state (now (cells .entry)) (now (bins .entry))) (room (now (names .entry)) (now (blocks .entry)) (now (indexes .entry)) (now (firsts .entry)) (now (widths .entry)) (now (values .entry)))
         r (state (now (cells .exit)) (now (bins .exit))) (room (now (names .exit)) (now (blocks .exit)) (now (indexes .exit)) (now (firsts .exit)) (now (widths .exit)) (now (values .exit))) (now (memo .exit)) ⌝ }
 {
     let on = is(cells, c::AHTE as usize, 1);
-    rows_when(
+    hybrid_slots(
         src,
         names,
         blocks,
@@ -1118,15 +1125,12 @@ pub fn hybrid(
         firsts,
         widths,
         values,
-        table,
         cells,
         bins,
         memo,
         cur,
         limit,
         on,
-        249,
-        273,
     )
 }
 
@@ -1243,14 +1247,13 @@ pub fn offsets(
     firsts: &mut [u16],
     widths: &mut [u16],
     values: &mut [u32],
-    table: &[u64; 640],
     cells: &mut [u16; 640],
     bins: &mut [u8; 3584],
     memo: &mut [u8; 2128],
     cur: Cursor,
     limit: BitPlace,
 ) -> Cursor
-    requires { ⌜ Page (now src) (limit .0) (now table) (now bins) (now memo) offsetsOf 273 294 ⌝ }
+    requires { ⌜ Ready (now src) (limit .0) (now bins) (now memo) ⌝ }
     ensures { λ r. ⌜ Runs (now (src .entry)) (limit .0) offsetsOf cur (state (now (cells .entry)) (now (bins .entry))) (room (now (names .entry)) (now (blocks .entry)) (now (indexes .entry)) (now (firsts .entry)) (now (widths .entry)) (now (values .entry)))
         r (state (now (cells .exit)) (now (bins .exit))) (room (now (names .exit)) (now (blocks .exit)) (now (indexes .exit)) (now (firsts .exit)) (now (widths .exit)) (now (values .exit))) (now (memo .exit)) ⌝ }
 {
@@ -1267,7 +1270,7 @@ pub fn offsets(
         limit,
     );
     let trans = is(cells, c::TRANSPROCE as usize, 1);
-    let b = rows_when(
+    let b = transient_processing(
         src,
         names,
         blocks,
@@ -1275,18 +1278,15 @@ pub fn offsets(
         firsts,
         widths,
         values,
-        table,
         cells,
         bins,
         memo,
         a,
         limit,
         trans,
-        279,
-        284,
     );
     let spx = is(cells, c::SPXATTENE as usize, 1);
-    let d = rows_when(
+    let d = spx_attenuation(
         src,
         names,
         blocks,
@@ -1294,18 +1294,15 @@ pub fn offsets(
         firsts,
         widths,
         values,
-        table,
         cells,
         bins,
         memo,
         b,
         limit,
         spx,
-        285,
-        289,
     );
     let starts = is_not(cells, c::NUMBLKSCOD as usize, 0);
-    rows_when(
+    block_start_info(
         src,
         names,
         blocks,
@@ -1313,15 +1310,12 @@ pub fn offsets(
         firsts,
         widths,
         values,
-        table,
         cells,
         bins,
         memo,
         d,
         limit,
         starts,
-        290,
-        294,
     )
 }
 
@@ -1333,14 +1327,13 @@ pub fn audfrm(
     firsts: &mut [u16],
     widths: &mut [u16],
     values: &mut [u32],
-    table: &[u64; 640],
     cells: &mut [u16; 640],
     bins: &mut [u8; 3584],
     memo: &mut [u8; 2128],
     cur: Cursor,
     limit: BitPlace,
 ) -> Cursor
-    requires { ⌜ Page (now src) (limit .0) (now table) (now bins) (now memo) audfrmOf 189 294 ⌝ }
+    requires { ⌜ Ready (now src) (limit .0) (now bins) (now memo) ⌝ }
     ensures { λ r. ⌜ Runs (now (src .entry)) (limit .0) audfrmOf cur (state (now (cells .entry)) (now (bins .entry))) (room (now (names .entry)) (now (blocks .entry)) (now (indexes .entry)) (now (firsts .entry)) (now (widths .entry)) (now (values .entry)))
         r (state (now (cells .exit)) (now (bins .exit))) (room (now (names .exit)) (now (blocks .exit)) (now (indexes .exit)) (now (firsts .exit)) (now (widths .exit)) (now (values .exit))) (now (memo .exit)) ⌝ }
 {
@@ -1352,7 +1345,6 @@ pub fn audfrm(
         firsts,
         widths,
         values,
-        table,
         cells,
         bins,
         memo,
@@ -1367,7 +1359,6 @@ pub fn audfrm(
         firsts,
         widths,
         values,
-        table,
         cells,
         bins,
         memo,
@@ -1382,7 +1373,6 @@ pub fn audfrm(
         firsts,
         widths,
         values,
-        table,
         cells,
         bins,
         memo,
@@ -1397,7 +1387,6 @@ pub fn audfrm(
         firsts,
         widths,
         values,
-        table,
         cells,
         bins,
         memo,

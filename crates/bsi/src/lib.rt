@@ -1,11 +1,14 @@
 // syncinfo and bsi in code (specs/Syncinfo and specs/Bsi of crate annex).
+pub mod parts;
+pub mod rows;
+
 ghost use Prim.Native.Nat.{_*_, _≤_};
 ghost use lib.ListN.{length};
 ghost use Rattle.reading.specs.Room.{room};
 ghost use Rattle.walk.specs.Cells.{state};
 ghost use Rattle.annex.specs.Syncinfo.{syncinfo};
 ghost use Rattle.annex.specs.Bsi.{numblks-by, nfchans-by, rates as ratesOf, loudness as loudnessOf, loudness2 as loudness2Of, chanmaps, channels as channelsOf, mixing as mixingOf, info as infoOf, bsi as bsiOf};
-ghost use Rattle.page.specs.Page.{Reads, Runs, Calms, Page};
+ghost use Rattle.page.specs.Page.{Reads, Runs, Calms, Ready};
 use annex::cells as c;
 use bits::BitPlace;
 use names::numbers as n;
@@ -16,10 +19,15 @@ use page::is;
 use page::plain;
 use page::plain_when;
 use page::reject;
-use page::rows_when;
 use page::set;
 use page::set_by;
 use page::set_when;
+use parts::additional_bsi;
+use parts::converted_frame;
+use parts::converter_sync;
+use parts::dual_mono;
+use parts::informational_metadata;
+use parts::mixing_metadata;
 use syntax::Cursor;
 
 // The header, up to frmsiz.
@@ -396,14 +404,13 @@ pub fn mixing(
     firsts: &mut [u16],
     widths: &mut [u16],
     values: &mut [u32],
-    table: &[u64; 640],
     cells: &mut [u16; 640],
     bins: &mut [u8; 3584],
     memo: &mut [u8; 2128],
     cur: Cursor,
     limit: BitPlace,
 ) -> Cursor
-    requires { ⌜ Page (now src) (limit .0) (now table) (now bins) (now memo) mixingOf 45 151 ⌝ }
+    requires { ⌜ Ready (now src) (limit .0) (now bins) (now memo) ⌝ }
     ensures { λ r. ⌜ Runs (now (src .entry)) (limit .0) mixingOf cur (state (now (cells .entry)) (now (bins .entry))) (room (now (names .entry)) (now (blocks .entry)) (now (indexes .entry)) (now (firsts .entry)) (now (widths .entry)) (now (values .entry)))
         r (state (now (cells .exit)) (now (bins .exit))) (room (now (names .exit)) (now (blocks .exit)) (now (indexes .exit)) (now (firsts .exit)) (now (widths .exit)) (now (values .exit))) (now (memo .exit)) ⌝ }
 {
@@ -423,7 +430,7 @@ pub fn mixing(
         c::MIXMDATE as usize,
     );
     let sent = is(cells, c::MIXMDATE as usize, 1);
-    rows_when(
+    mixing_metadata(
         src,
         names,
         blocks,
@@ -431,15 +438,12 @@ pub fn mixing(
         firsts,
         widths,
         values,
-        table,
         cells,
         bins,
         memo,
         on,
         limit,
         sent,
-        47,
-        151,
     )
 }
 
@@ -452,14 +456,13 @@ pub fn info(
     firsts: &mut [u16],
     widths: &mut [u16],
     values: &mut [u32],
-    table: &[u64; 640],
     cells: &mut [u16; 640],
     bins: &mut [u8; 3584],
     memo: &mut [u8; 2128],
     cur: Cursor,
     limit: BitPlace,
 ) -> Cursor
-    requires { ⌜ Page (now src) (limit .0) (now table) (now bins) (now memo) infoOf 151 189 ⌝ }
+    requires { ⌜ Ready (now src) (limit .0) (now bins) (now memo) ⌝ }
     ensures { λ r. ⌜ Runs (now (src .entry)) (limit .0) infoOf cur (state (now (cells .entry)) (now (bins .entry))) (room (now (names .entry)) (now (blocks .entry)) (now (indexes .entry)) (now (firsts .entry)) (now (widths .entry)) (now (values .entry)))
         r (state (now (cells .exit)) (now (bins .exit))) (room (now (names .exit)) (now (blocks .exit)) (now (indexes .exit)) (now (firsts .exit)) (now (widths .exit)) (now (values .exit))) (now (memo .exit)) ⌝ }
 {
@@ -479,7 +482,7 @@ pub fn info(
         c::INFOMDATE as usize,
     );
     let sent = is(cells, c::INFOMDATE as usize, 1);
-    let told = rows_when(
+    let told = informational_metadata(
         src,
         names,
         blocks,
@@ -487,18 +490,15 @@ pub fn info(
         firsts,
         widths,
         values,
-        table,
         cells,
         bins,
         memo,
         on,
         limit,
         sent,
-        153,
-        174,
     );
     let independent = is(cells, c::STRMTYP as usize, 0);
-    let sync = rows_when(
+    let sync = converter_sync(
         src,
         names,
         blocks,
@@ -506,18 +506,15 @@ pub fn info(
         firsts,
         widths,
         values,
-        table,
         cells,
         bins,
         memo,
         told,
         limit,
         independent,
-        175,
-        177,
     );
     let converted = is(cells, c::STRMTYP as usize, 2);
-    let size = rows_when(
+    let size = converted_frame(
         src,
         names,
         blocks,
@@ -525,15 +522,12 @@ pub fn info(
         firsts,
         widths,
         values,
-        table,
         cells,
         bins,
         memo,
         sync,
         limit,
         converted,
-        178,
-        184,
     );
     let add = plain(
         src,
@@ -551,7 +545,7 @@ pub fn info(
         c::ADDBSIE as usize,
     );
     let more = is(cells, c::ADDBSIE as usize, 1);
-    rows_when(
+    additional_bsi(
         src,
         names,
         blocks,
@@ -559,15 +553,12 @@ pub fn info(
         firsts,
         widths,
         values,
-        table,
         cells,
         bins,
         memo,
         add,
         limit,
         more,
-        186,
-        189,
     )
 }
 
@@ -580,14 +571,13 @@ pub fn bsi(
     firsts: &mut [u16],
     widths: &mut [u16],
     values: &mut [u32],
-    table: &[u64; 640],
     cells: &mut [u16; 640],
     bins: &mut [u8; 3584],
     memo: &mut [u8; 2128],
     cur: Cursor,
     limit: BitPlace,
 ) -> Cursor
-    requires { ⌜ Page (now src) (limit .0) (now table) (now bins) (now memo) bsiOf 8 189 ⌝ }
+    requires { ⌜ Ready (now src) (limit .0) (now bins) (now memo) ⌝ }
     ensures { λ r. ⌜ Runs (now (src .entry)) (limit .0) bsiOf cur (state (now (cells .entry)) (now (bins .entry))) (room (now (names .entry)) (now (blocks .entry)) (now (indexes .entry)) (now (firsts .entry)) (now (widths .entry)) (now (values .entry)))
         r (state (now (cells .exit)) (now (bins .exit))) (room (now (names .exit)) (now (blocks .exit)) (now (indexes .exit)) (now (firsts .exit)) (now (widths .exit)) (now (values .exit))) (now (memo .exit)) ⌝ }
 {
@@ -616,7 +606,7 @@ pub fn bsi(
         limit,
     );
     let second = is(cells, c::ACMOD as usize, 0);
-    let d = rows_when(
+    let d = dual_mono(
         src,
         names,
         blocks,
@@ -624,15 +614,12 @@ pub fn bsi(
         firsts,
         widths,
         values,
-        table,
         cells,
         bins,
         memo,
         b,
         limit,
         second,
-        37,
-        41,
     );
     let e = channels(
         src,
@@ -654,7 +641,6 @@ pub fn bsi(
         firsts,
         widths,
         values,
-        table,
         cells,
         bins,
         memo,
@@ -669,7 +655,6 @@ pub fn bsi(
         firsts,
         widths,
         values,
-        table,
         cells,
         bins,
         memo,

@@ -1,13 +1,12 @@
 -- What an accepted run of a tree gives, and of items one after another. Assumes nothing.
-use mathlib.Core.Path.{_≡_, refl, sym, _∙_, subst}
-use mathlib.Core.Bool.{Bool, true, false, cond}
+use mathlib.Core.Path.{_≡_, refl, sym, subst}
 use mathlib.Core.List.{List}
 use Prim.Native.Nat.{ℕ, _+_}
 use native.Mathlib.Omega.{arith}
 use lib.Dec.{leb}
 use Rattle.reading.proofs.Laws.{test, choice}
 use Rattle.bits.specs.Bits.{bitsAt}
-use Rattle.reading.specs.Tree.{Tree, done, refuse, read, _>>=_}
+use Rattle.reading.specs.Tree.{Tree, _>>=_}
 use Rattle.reading.specs.Run.{Result, accepted, refused, Outcome, andThen, after, run}
 use Rattle.reading.proofs.Runs.{run-bind}
 use Rattle.walk.specs.Cells.{State, placeOf, kept}

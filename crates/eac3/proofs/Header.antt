@@ -1,20 +1,19 @@
 -- The header's size is the one that the buffer announces. Assumes nothing.
-use mathlib.Core.Path.{_≡_, refl, ap, sym, _∙_}
+use mathlib.Core.Path.{_≡_, ap}
 use mathlib.Core.List.{List}
-use Prim.Native.Nat.{ℕ, _+_, _*_, _%_, _<_, _^_}
+use Prim.Native.Nat.{ℕ, _+_, _*_, _%_, _<_}
 use native.Mathlib.Omega.{arith}
 use Rattle.bits.specs.Bits.{bitsAt}
 use Rattle.bits.proofs.BitLaws.{bitsAt-lt}
-use Rattle.reading.specs.Run.{accepted, run}
-use Rattle.reading.specs.Frame.{Format, Announces}
+use Rattle.reading.specs.Frame.{Announces}
 use Rattle.reading.specs.CommonReading.{CommonReading}
 use Rattle.reading.proofs.Theorem.{common-reading}
-use Rattle.walk.specs.Cells.{State, cellOf, putIn}
+use Rattle.walk.specs.Cells.{cellOf, putIn}
 use Rattle.walk.specs.CellNames.{FRMSIZ}
 use Rattle.walk.specs.Syntax.{meaning}
 use Rattle.annex.specs.Syncinfo.{syncinfo}
 use Rattle.annex.specs.Annex.{header}
-use Rattle.eac3.specs.Frame.{start, bytesOf, announcedBy, eac3}
+use Rattle.eac3.specs.Frame.{start, eac3}
 use Rattle.eac3.proofs.Gives.{Gives, gives-next, gives-element, gives-put, gives-reject, gives-end}
 
 -- the state after the header

@@ -1,4 +1,3 @@
-pub mod Halves
 pub mod Gives
 pub mod Header
 pub mod Edges

@@ -11,10 +11,10 @@ use borrow.Author.Tests.{le-leb, lt-leb}
 use Rattle.bits.specs.Bits.{bitsAt}
 use Rattle.bits.proofs.BitLaws.{bitsAt-lt}
 use Rattle.reading.specs.Tree.{Part, Tree, done, here, read, span, _>>=_}
-use Rattle.reading.specs.Run.{Result, fieldOf, accepted, refused, Outcome, out, after, run, skim}
-use Rattle.reading.specs.Frame.{TailNames, plain, auxdataeAt, ahead, ending, tail, finish, framed, sized, parse}
-use Rattle.reading.specs.Room.{Room, size, pushed, cut, fill, Out, got, into, skimmed-by, exec}
-use Rattle.reading.proofs.Rooms.{cut-same, go-on, _then_, exec-bind, exec-is, into-after}
+use Rattle.reading.specs.Run.{fieldOf, accepted, refused, Outcome, out, after, run}
+use Rattle.reading.specs.Frame.{TailNames, ahead, ending, tail, framed, sized, parse}
+use Rattle.reading.specs.Room.{Room, size, pushed, cut, fill, Out, got, into, exec}
+use Rattle.reading.proofs.Rooms.{cut-same, go-on, _then_, exec-is, into-after}
 use Rattle.syntax.specs.Records.{told, goingAt, haltedAt}
 use Rattle.syntax.specs.declared.Cursor.{Cursor}
 use Rattle.blocks.specs.Held.{Held}
@@ -22,8 +22,8 @@ use Rattle.walk.specs.Cells.{State, state, cellOf}
 use Rattle.walk.specs.CellNames.{FRMSIZ}
 use Rattle.walk.specs.Syntax.{meaning}
 use Rattle.frame.proofs.Steps.{drops}
-use Rattle.annex.specs.Annex.{header, body}
-use Rattle.eac3.specs.Frame.{start, tailNames, bytesOf, eac3}
+use Rattle.annex.specs.Annex.{header}
+use Rattle.eac3.specs.Frame.{start, bytesOf, eac3}
 use Rattle.eac3.specs.Answer.{answered, answerBy, answerOf, Called, toldOf}
 use Rattle.eac3.specs.Parts.{placed, followed, bodyOf, readOf}
 use Rattle.eac3.specs.declared.answer.Answer.{Answer}

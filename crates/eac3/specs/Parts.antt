@@ -2,7 +2,7 @@
 use mathlib.Core.Path.{_≡_}
 use mathlib.Core.Bool.{false, cond}
 use mathlib.Core.List.{List}
-use Prim.Native.Nat.{ℕ, _-_, _*_, _≤_, _<_}
+use Prim.Native.Nat.{ℕ, _-_, _≤_, _<_}
 use lib.ListN.{length, replicate}
 use Rattle.reading.specs.Run.{refused, Outcome, after, run}
 use Rattle.reading.specs.Frame.{finish, sized}
@@ -15,7 +15,6 @@ use Rattle.walk.specs.Cells.{State, cellOf}
 use Rattle.walk.specs.CellNames.{FRMSIZ}
 use Rattle.walk.specs.Syntax.{meaning}
 use Rattle.annex.specs.Annex.{header, body}
-use Rattle.annex.specs.Rows.{Annexed}
 use Rattle.eac3.specs.Frame.{start, tailNames, eac3}
 
 -- an outcome, at the room from the count n on
@@ -30,24 +29,14 @@ followed c st m f = cond (c .stopped) (got (refused (c .number)) (c .at .0) (c .
 pub record Tailed (s : List ℕ) (l : ℕ) (c : Cursor) (m : Room) (r : Cursor) (m′ : Room) : Type 0 where
   pub tells : (st : State) → told r st m′ ≡ followed c st m (finish tailNames s l)
 
--- what the body asks: the rows of Annex E, a frame within the data, no exponent too large, what is kept of allocations right, and a reading that is not stopped
-pub record Bodied (s : List ℕ) (l : ℕ) (t bins mem : List ℕ) (c : Cursor) : Type 0 where
-  pub annexed : Annexed t
-  pub within : l ≤ 8 * length s
-  pub held : Held bins
-  pub right : Memo mem bins
-  pub live : c .stopped ≡ false
-
 -- what follows the header asks: the size is one that frmsiz can say
-pub record Sized (t cells bins mem : List ℕ) (c : Cursor) : Type 0 where
-  pub annexed : Annexed t
+pub record Sized (cells bins mem : List ℕ) (c : Cursor) : Type 0 where
   pub held : Held bins
   pub right : Memo mem bins
   pub small : c .stopped ≡ false → cellOf cells FRMSIZ < 2048
 
 -- what the whole asks: nothing is read yet
-pub record Fresh (s t cells bins mem : List ℕ) : Type 0 where
-  pub annexed : Annexed t
+pub record Fresh (s cells bins mem : List ℕ) : Type 0 where
   pub six : 6 ≤ length s
   pub no-cells : cells ≡ start .cells
   pub no-bins : bins ≡ start .bins

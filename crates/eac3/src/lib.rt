@@ -1,9 +1,8 @@
 // The reader of E-AC-3 syncframes (eac3.rs; A/52 Annex E, TS 102 366 Annex E).
 pub mod answer;
-pub mod table;
 
+ghost use mathlib.Core.Bool.{false};
 ghost use mathlib.Core.Path.{_≡_};
-ghost use mathlib.Core.List.{_++_};
 ghost use Prim.Native.Nat.{_+_, _*_, _%_, _≤_};
 ghost use lib.ListN.{length};
 ghost use Rattle.reading.specs.Frame.{sized as sizedBy};
@@ -11,12 +10,11 @@ ghost use Rattle.reading.specs.Room.{room};
 ghost use Rattle.syntax.specs.Records.{told};
 ghost use Rattle.walk.specs.Cells.{state, cellOf};
 ghost use Rattle.walk.specs.CellNames.{FRMSIZ as frmsiz};
-ghost use Rattle.annex.specs.Rows.{Annexed};
 ghost use Rattle.annex.specs.Annex.{body as bodyOfAnnex};
-ghost use Rattle.page.specs.Page.{Page, Runs};
+ghost use Rattle.page.specs.Page.{Ready, Runs};
 ghost use Rattle.eac3.specs.Frame.{eac3};
 ghost use Rattle.eac3.specs.Answer.{Called};
-ghost use Rattle.eac3.specs.Parts.{placed, followed, Tailed, Bodied, Sized, Fresh, bodyOf, readOf};
+ghost use Rattle.eac3.specs.Parts.{placed, followed, Tailed, Sized, Fresh, bodyOf, readOf};
 use answer::Answer;
 use answer::answer_of;
 use audblk::turns::audblks;
@@ -31,31 +29,8 @@ use names::numbers as n;
 use syntax::Cursor;
 use syntax::going;
 use syntax::halted;
-use table::FIRST;
-use table::SECOND;
 use walk::cells::FRMSIZ;
 use walk::cells::cell_of;
-
-// The one array and then the other.
-fn joined(first: [u64; 320], second: [u64; 320]) -> [u64; 640]
-    ensures { λ r. ⌜ r ≡ first ++ second ⌝ }
-{
-    let mut all: [u64; 640] = [0; 640];
-    let mut i: usize = 0;
-    while i < 320 {
-        all[i] = first[i];
-        all[320 + i] = second[i];
-        i += 1;
-    }
-    all
-}
-
-// The table of Annex E: the rows of the header, and then those of the body.
-pub fn annex() -> [u64; 640]
-    ensures { λ r. ⌜ Annexed r ⌝ }
-{
-    joined(FIRST, SECOND)
-}
 
 // auxdata and errorcheck, after the body.
 fn tailed(
@@ -105,14 +80,13 @@ fn body(
     firsts: &mut [u16],
     widths: &mut [u16],
     values: &mut [u32],
-    table: &[u64; 640],
     cells: &mut [u16; 640],
     bins: &mut [u8; 3584],
     memo: &mut [u8; 2128],
     cur: Cursor,
     limit: BitPlace,
 ) -> Cursor
-    requires { ⌜ Page (now src) (limit .0) (now table) (now bins) (now memo) bodyOfAnnex 8 630 ⌝ }
+    requires { ⌜ Ready (now src) (limit .0) (now bins) (now memo) ⌝ }
     ensures { λ r. ⌜ Runs (now (src .entry)) (limit .0) bodyOfAnnex cur (state (now (cells .entry)) (now (bins .entry))) (room (now (names .entry)) (now (blocks .entry)) (now (indexes .entry)) (now (firsts .entry)) (now (widths .entry)) (now (values .entry)))
         r (state (now (cells .exit)) (now (bins .exit))) (room (now (names .exit)) (now (blocks .exit)) (now (indexes .exit)) (now (firsts .exit)) (now (widths .exit)) (now (values .exit))) (now (memo .exit)) ⌝ }
 {
@@ -124,7 +98,6 @@ fn body(
         firsts,
         widths,
         values,
-        table,
         cells,
         bins,
         memo,
@@ -139,7 +112,6 @@ fn body(
         firsts,
         widths,
         values,
-        table,
         cells,
         bins,
         memo,
@@ -154,7 +126,6 @@ fn body(
         firsts,
         widths,
         values,
-        table,
         cells,
         bins,
         memo,
@@ -172,14 +143,13 @@ fn bodied(
     firsts: &mut [u16],
     widths: &mut [u16],
     values: &mut [u32],
-    table: &[u64; 640],
     cells: &mut [u16; 640],
     bins: &mut [u8; 3584],
     memo: &mut [u8; 2128],
     cur: Cursor,
     limit: BitPlace,
 ) -> Cursor
-    requires { ⌜ Bodied (now src) (limit .0) (now table) (now bins) (now memo) cur ⌝ }
+    requires { ⌜ (Ready (now src) (limit .0) (now bins) (now memo)) × (cur .stopped ≡ false) ⌝ }
     ensures { λ r. ⌜ told r (state (now (cells .exit)) (now (bins .exit))) (room (now (names .exit)) (now (blocks .exit)) (now (indexes .exit)) (now (firsts .exit)) (now (widths .exit)) (now (values .exit)))
         ≡ placed (cur .count) (room (now (names .entry)) (now (blocks .entry)) (now (indexes .entry)) (now (firsts .entry)) (now (widths .entry)) (now (values .entry))) (bodyOf (now (src .entry)) (limit .0) (state (now (cells .entry)) (now (bins .entry))) (cur .at .0)) ⌝ }
 {
@@ -191,7 +161,6 @@ fn bodied(
         firsts,
         widths,
         values,
-        table,
         cells,
         bins,
         memo,
@@ -227,13 +196,12 @@ fn sized(
     firsts: &mut [u16],
     widths: &mut [u16],
     values: &mut [u32],
-    table: &[u64; 640],
     cells: &mut [u16; 640],
     bins: &mut [u8; 3584],
     memo: &mut [u8; 2128],
     cur: Cursor,
 ) -> Cursor
-    requires { ⌜ Sized (now table) (now cells) (now bins) (now memo) cur ⌝ }
+    requires { ⌜ Sized (now cells) (now bins) (now memo) cur ⌝ }
     ensures { λ r. ⌜ told r (state (now (cells .exit)) (now (bins .exit))) (room (now (names .exit)) (now (blocks .exit)) (now (indexes .exit)) (now (firsts .exit)) (now (widths .exit)) (now (values .exit)))
         ≡ followed cur (state (now (cells .entry)) (now (bins .entry))) (room (now (names .entry)) (now (blocks .entry)) (now (indexes .entry)) (now (firsts .entry)) (now (widths .entry)) (now (values .entry))) (sizedBy eac3 (now (src .entry))) ⌝ }
 {
@@ -252,7 +220,6 @@ fn sized(
         firsts,
         widths,
         values,
-        table,
         cells,
         bins,
         memo,
@@ -270,12 +237,11 @@ fn read(
     firsts: &mut [u16],
     widths: &mut [u16],
     values: &mut [u32],
-    table: &[u64; 640],
     cells: &mut [u16; 640],
     bins: &mut [u8; 3584],
     memo: &mut [u8; 2128],
 ) -> Cursor
-    requires { ⌜ Fresh (now src) (now table) (now cells) (now bins) (now memo) ⌝ }
+    requires { ⌜ Fresh (now src) (now cells) (now bins) (now memo) ⌝ }
     ensures { λ r. ⌜ told r (state (now (cells .exit)) (now (bins .exit))) (room (now (names .exit)) (now (blocks .exit)) (now (indexes .exit)) (now (firsts .exit)) (now (widths .exit)) (now (values .exit)))
         ≡ placed 0 (room (now (names .entry)) (now (blocks .entry)) (now (indexes .entry)) (now (firsts .entry)) (now (widths .entry)) (now (values .entry))) (readOf (now (src .entry))) ⌝ }
 {
@@ -299,7 +265,6 @@ fn read(
         firsts,
         widths,
         values,
-        table,
         cells,
         bins,
         memo,
@@ -323,7 +288,6 @@ pub fn parse(
     if src.len() < 6 {
         return answer_of(halted(BitPlace(0), 0, 1), &cells);
     }
-    let table = annex();
     let mut bins: [u8; 3584] = [0; 3584];
     let mut memo: [u8; 2128] = [0; 2128];
     let cur = read(
@@ -334,7 +298,6 @@ pub fn parse(
         firsts,
         widths,
         values,
-        &table,
         &mut cells,
         &mut bins,
         &mut memo,

@@ -10,9 +10,9 @@ use Rattle.reading.specs.Run.{Entry}
 use Rattle.walk.specs.Cells.{State, cellOf, putIn, kept, placeOf, heldOf}
 use Rattle.walk.specs.CellNames.{CPLEND, CPLINU, CPLSTRT, ENDMANT, LFEON, NFCHANS, NUMBLKS}
 use Rattle.walk.specs.Rows.{holdsOf}
-use Rattle.walk.specs.Syntax.{Block, _⨾_, reject, cell, at}
+use Rattle.walk.specs.Syntax.{Block, _⨾_, _⧺_, reject, cell, at}
 use Rattle.walk.specs.declared.table.Cond.{Cond}
-use Rattle.annex.specs.Audblk.{exponents}
+use Rattle.annex.specs.Audblk.{exponents, lfe-exponents, cpl-exponents, exponents-channel, exponents-held, exponents-sent, exponent-groups, exponent-group, exponent-bins}
 use Rattle.annex.specs.Cells.{BLK, CH, CPLHELD, HELDEND, SNROFFSTSTR}
 use Rattle.facts.specs.Unmet.{Channels, Coupling, Lfe, Unmet}
 use Rattle.facts.proofs.Cells.{cell-zero, cell-same}
@@ -118,7 +118,7 @@ module _ (s : List ℕ) (l : ℕ) where
       walks-next s l Unmet (reject c n) b st p es {M = λ a q fs. Walks s l Unmet b a q fs R} (calms (reject c n) es st refl w) (walked-reject s l Unmet c n st p es h) (λ a q fs r. r)
 
   coupled : (st : State) (p : ℕ) (es : List Entry) → Within (st .cells) → Walks s l Unmet (firstItems 1 exponents) st p es (Coupled st es)
-  unfolding exponents firstItems afterItems passes firm
+  unfolding _⧺_ exponents lfe-exponents cpl-exponents exponents-channel exponents-held exponents-sent exponent-groups exponent-group exponent-bins firstItems afterItems passes firm
   coupled st p es w =
       walks-next s l Unmet _ _ st p es {M = Coupled st es} tt
       (walked-when s l Unmet _ _ st p es
@@ -216,7 +216,7 @@ module _ (s : List ℕ) (l : ℕ) where
   -- what follows its number
   channel : (st : State) (es : List Entry) (j : ℕ) → j < 5 → (b : State) (r : ℕ) (gs : List Entry) → Turned st es j b r gs → cellOf (b .cells) CH ≡ j
       → Walks s l Unmet (afterItems 2 (inner (afterItems 1 exponents))) b r gs (Turned st es (suc j))
-  unfolding exponents afterItems inner passes firm turn
+  unfolding _⧺_ exponents lfe-exponents cpl-exponents exponents-channel exponents-held exponents-sent exponent-groups exponent-group exponent-bins afterItems inner passes firm turn
   channel st es j n b r gs t e =
       either s l _ _ _ b r gs
       (λ _. skip s l (keeps turn) 8 _ refl b r gs (t .since .goes .within)
@@ -239,7 +239,7 @@ module _ (s : List ℕ) (l : ℕ) where
 
   channels : (st : State) (p : ℕ) (es : List Entry) → Within (st .cells) → Coupling (st .cells)
       → Walks s l Unmet (firstItems 1 (afterItems 1 exponents)) st p es (λ a q fs. Since st es a fs × Coupling (a .cells) × Channels (a .cells))
-  unfolding exponents firstItems afterItems inner passes firm turn
+  unfolding _⧺_ exponents lfe-exponents cpl-exponents exponents-channel exponents-held exponents-sent exponent-groups exponent-group exponent-bins firstItems afterItems inner passes firm turn
   channels st p es w c =
       walks-next s l Unmet _ _ st p es {M = λ a q fs. Since st es a fs × Coupling (a .cells) × Channels (a .cells)} tt
       (walked-each s l Unmet CH _ _ _ st p es (Turned st es)
@@ -268,7 +268,7 @@ module _ (s : List ℕ) (l : ℕ) where
     pub lfe : Lfe (a .cells)
 
   lfe-covered : (st : State) (p : ℕ) (es : List Entry) → Within (st .cells) → Coupling (st .cells) → Channels (st .cells) → Walks s l Unmet (afterItems 1 (afterItems 1 exponents)) st p es (Covered st es)
-  unfolding exponents afterItems passes firm
+  unfolding _⧺_ exponents lfe-exponents cpl-exponents exponents-channel exponents-held exponents-sent exponent-groups exponent-group exponent-bins afterItems passes firm
   lfe-covered st p es w c d =
       walks-next s l Unmet _ _ st p es {M = Covered st es} tt
       (walked-when s l Unmet _ _ st p es

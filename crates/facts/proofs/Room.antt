@@ -23,9 +23,9 @@ use Rattle.names.specs.Names.{syncword}
 use Rattle.annex.specs.Cells.{SYNCWORD}
 use Rattle.walk.specs.Syntax.{_⧺_}
 use Rattle.annex.specs.Syncinfo.{syncinfo}
-use Rattle.annex.specs.Bsi.{numblks-by, nfchans-by, rates, loudness, loudness2, chanmaps, channels, bsi-head, mixdef3, mixing, info, bsi}
-use Rattle.annex.specs.Audfrm.{fresh, expstre-sent, expstre-known, strategy-flags, block-flags, field-flags, frame-flags, coupling-use, cplblk-counted, ncplblks-by, flags, cplexpstr-by, chexpstr-by, expstr-by, block-strategies, lfeexpstr-by, lfe-strategies, convexpstr-by, conv-codes, conv-strategies, strategies, hybrid, fsnroffst-by, snroffsts, offsets, audfrm}
-use Rattle.annex.specs.Audblk.{dynamics, no-spx-channel, no-spx, spx-use, spx-strategy, spx-coordinates, cpl-strategy, cpl-coordinates, rematrixing, bandwidth, exponents, bai-defaults, fgain-default, fgain-defaults, convsnr, parameters, deltas, mantissas-of-block, audblk-dynamics, audblk-coupling, audblk-exponents, audblk-mantissas, audblk}
+use Rattle.annex.specs.Bsi.{numblks-by, nfchans-by, rates, loudness, loudness2, dual-mono, chanmaps, channels, bsi-head, mixdef3, mixing, mixing-metadata, info, additional-bsi, converted-frame, converter-sync, informational-metadata, bsi}
+use Rattle.annex.specs.Audfrm.{fresh, expstre-sent, expstre-known, strategy-flags, block-flags, field-flags, frame-flags, coupling-use, coupling-blocks, cplblk-counted, ncplblks-by, flags, cplexpstr-by, chexpstr-by, expstr-by, block-strategies, lfeexpstr-by, lfe-strategies, convexpstr-by, conv-codes, conv-strategies, strategies, frame-strategies, hybrid, hybrid-slots, fsnroffst-by, snroffsts, offsets, block-start-info, spx-attenuation, transient-processing, audfrm}
+use Rattle.annex.specs.Audblk.{dynamics, second-dynamics, dither-flags, block-switches, no-spx-channel, no-spx, spx-use, spx-bands, spx-strategy, spx-coordinates, spx-coordinates-of, cpl-strategy, cpl-use, cpl-coordinates, cpl-coordinates-of, rematrixing, rematrixing-bands, bandwidth, end-channel, end-coded, end-extended, end-coupled, bandwidth-channel, bandwidth-code, exponents, lfe-exponents, cpl-exponents, exponents-channel, exponents-held, exponents-sent, exponent-groups, exponent-group, exponent-bins, bai-defaults, fgain-default, fgain-defaults, convsnr, parameters, gain-parameters, cpl-leak, fgains, snr-parameters, snr-offsets, bai-sent, deltas, skip-field, delta-segments, mantissas-of-block, aht-lfe, aht-channel, audblk-dynamics, audblk-coupling, audblk-exponents, audblk-mantissas, audblk}
 use Rattle.annex.specs.Annex.{header, block-of, blocks-of, audblks, body}
 use Rattle.eac3.specs.Frame.{start, tailNames, bytesOf, eac3}
 use Rattle.eac3.specs.Answer.{answered, answerBy, answerOf, numberOf}
@@ -102,15 +102,15 @@ module _ {A : Type 0} (N : TailNames) (b : List ℕ) (l : ℕ) where
 
 -- what the syntax of Annex E can make, and refuse
 zeros-body : zeros body ≡ 15
-unfolding zeros _⧺_ numblks-by nfchans-by rates loudness loudness2 chanmaps channels bsi-head mixdef3 mixing info bsi fresh expstre-sent expstre-known strategy-flags block-flags field-flags frame-flags coupling-use cplblk-counted ncplblks-by flags cplexpstr-by chexpstr-by expstr-by block-strategies lfeexpstr-by lfe-strategies convexpstr-by conv-codes conv-strategies strategies hybrid fsnroffst-by snroffsts offsets audfrm dynamics no-spx-channel no-spx spx-use spx-strategy spx-coordinates cpl-strategy cpl-coordinates rematrixing bandwidth exponents bai-defaults fgain-default fgain-defaults convsnr parameters deltas mantissas-of-block audblk-dynamics audblk-coupling audblk-exponents audblk-mantissas audblk block-of blocks-of audblks body
+unfolding zeros _⧺_ numblks-by nfchans-by rates loudness loudness2 dual-mono chanmaps channels bsi-head mixdef3 mixing mixing-metadata info additional-bsi converted-frame converter-sync informational-metadata bsi fresh expstre-sent expstre-known strategy-flags block-flags field-flags frame-flags coupling-use coupling-blocks cplblk-counted ncplblks-by flags cplexpstr-by chexpstr-by expstr-by block-strategies lfeexpstr-by lfe-strategies convexpstr-by conv-codes conv-strategies strategies frame-strategies hybrid hybrid-slots fsnroffst-by snroffsts offsets block-start-info spx-attenuation transient-processing audfrm dynamics second-dynamics dither-flags block-switches no-spx-channel no-spx spx-use spx-bands spx-strategy spx-coordinates spx-coordinates-of cpl-strategy cpl-use cpl-coordinates cpl-coordinates-of rematrixing rematrixing-bands bandwidth end-channel end-coded end-extended end-coupled bandwidth-channel bandwidth-code exponents lfe-exponents cpl-exponents exponents-channel exponents-held exponents-sent exponent-groups exponent-group exponent-bins bai-defaults fgain-default fgain-defaults convsnr parameters gain-parameters cpl-leak fgains snr-parameters snr-offsets bai-sent deltas skip-field delta-segments mantissas-of-block aht-lfe aht-channel audblk-dynamics audblk-coupling audblk-exponents audblk-mantissas audblk block-of blocks-of audblks body
 zeros-body = refl
 
 counted-body : counted body ≡ true
-unfolding zeros counted _⧺_ numblks-by nfchans-by rates loudness loudness2 chanmaps channels bsi-head mixdef3 mixing info bsi fresh expstre-sent expstre-known strategy-flags block-flags field-flags frame-flags coupling-use cplblk-counted ncplblks-by flags cplexpstr-by chexpstr-by expstr-by block-strategies lfeexpstr-by lfe-strategies convexpstr-by conv-codes conv-strategies strategies hybrid fsnroffst-by snroffsts offsets audfrm dynamics no-spx-channel no-spx spx-use spx-strategy spx-coordinates cpl-strategy cpl-coordinates rematrixing bandwidth exponents bai-defaults fgain-default fgain-defaults convsnr parameters deltas mantissas-of-block audblk-dynamics audblk-coupling audblk-exponents audblk-mantissas audblk block-of blocks-of audblks body
+unfolding zeros counted _⧺_ numblks-by nfchans-by rates loudness loudness2 dual-mono chanmaps channels bsi-head mixdef3 mixing mixing-metadata info additional-bsi converted-frame converter-sync informational-metadata bsi fresh expstre-sent expstre-known strategy-flags block-flags field-flags frame-flags coupling-use coupling-blocks cplblk-counted ncplblks-by flags cplexpstr-by chexpstr-by expstr-by block-strategies lfeexpstr-by lfe-strategies convexpstr-by conv-codes conv-strategies strategies frame-strategies hybrid hybrid-slots fsnroffst-by snroffsts offsets block-start-info spx-attenuation transient-processing audfrm dynamics second-dynamics dither-flags block-switches no-spx-channel no-spx spx-use spx-bands spx-strategy spx-coordinates spx-coordinates-of cpl-strategy cpl-use cpl-coordinates cpl-coordinates-of rematrixing rematrixing-bands bandwidth end-channel end-coded end-extended end-coupled bandwidth-channel bandwidth-code exponents lfe-exponents cpl-exponents exponents-channel exponents-held exponents-sent exponent-groups exponent-group exponent-bins bai-defaults fgain-default fgain-defaults convsnr parameters gain-parameters cpl-leak fgains snr-parameters snr-offsets bai-sent deltas skip-field delta-segments mantissas-of-block aht-lfe aht-channel audblk-dynamics audblk-coupling audblk-exponents audblk-mantissas audblk block-of blocks-of audblks body
 counted-body = refl
 
 rejects-body : rejects body ≡ true
-unfolding rejects _⧺_ numblks-by nfchans-by rates loudness loudness2 chanmaps channels bsi-head mixdef3 mixing info bsi fresh expstre-sent expstre-known strategy-flags block-flags field-flags frame-flags coupling-use cplblk-counted ncplblks-by flags cplexpstr-by chexpstr-by expstr-by block-strategies lfeexpstr-by lfe-strategies convexpstr-by conv-codes conv-strategies strategies hybrid fsnroffst-by snroffsts offsets audfrm dynamics no-spx-channel no-spx spx-use spx-strategy spx-coordinates cpl-strategy cpl-coordinates rematrixing bandwidth exponents bai-defaults fgain-default fgain-defaults convsnr parameters deltas mantissas-of-block audblk-dynamics audblk-coupling audblk-exponents audblk-mantissas audblk block-of blocks-of audblks body
+unfolding rejects _⧺_ numblks-by nfchans-by rates loudness loudness2 dual-mono chanmaps channels bsi-head mixdef3 mixing mixing-metadata info additional-bsi converted-frame converter-sync informational-metadata bsi fresh expstre-sent expstre-known strategy-flags block-flags field-flags frame-flags coupling-use coupling-blocks cplblk-counted ncplblks-by flags cplexpstr-by chexpstr-by expstr-by block-strategies lfeexpstr-by lfe-strategies convexpstr-by conv-codes conv-strategies strategies frame-strategies hybrid hybrid-slots fsnroffst-by snroffsts offsets block-start-info spx-attenuation transient-processing audfrm dynamics second-dynamics dither-flags block-switches no-spx-channel no-spx spx-use spx-bands spx-strategy spx-coordinates spx-coordinates-of cpl-strategy cpl-use cpl-coordinates cpl-coordinates-of rematrixing rematrixing-bands bandwidth end-channel end-coded end-extended end-coupled bandwidth-channel bandwidth-code exponents lfe-exponents cpl-exponents exponents-channel exponents-held exponents-sent exponent-groups exponent-group exponent-bins bai-defaults fgain-default fgain-defaults convsnr parameters gain-parameters cpl-leak fgains snr-parameters snr-offsets bai-sent deltas skip-field delta-segments mantissas-of-block aht-lfe aht-channel audblk-dynamics audblk-coupling audblk-exponents audblk-mantissas audblk block-of blocks-of audblks body
 rejects-body = refl
 
 rejects-header : rejects header ≡ true

@@ -10,10 +10,10 @@ use Rattle.names.specs.Names.{cplfleak, cplsleak, csnroffst}
 use Rattle.reading.specs.Run.{Entry}
 use Rattle.walk.specs.Cells.{State, cellOf, kept, placeOf}
 use Rattle.walk.specs.CellNames.{CPLINU, FIRSTCPLLEAK}
-use Rattle.walk.specs.Syntax.{_⨾_, end, element}
+use Rattle.walk.specs.Syntax.{_⨾_, _⧺_, end, element}
 use Rattle.walk.specs.declared.cells.Addr.{Addr}
 use Rattle.walk.specs.declared.cells.Sum.{Sum}
-use Rattle.annex.specs.Audblk.{bai-defaults, fgain-default, fgain-defaults, convsnr, parameters}
+use Rattle.annex.specs.Audblk.{bai-defaults, fgain-default, fgain-defaults, convsnr, parameters, gain-parameters, cpl-leak, fgains, snr-parameters, snr-offsets, bai-sent}
 use Rattle.annex.specs.Cells.{BLK, CPLLEAKE, SNROFFSTE, SNROFFSTSTR}
 use Rattle.facts.specs.Along.{Has}
 use Rattle.facts.specs.Unmet.{Offsets, Leaks, Unmet}
@@ -66,7 +66,7 @@ module _ (s : List ℕ) (l : ℕ) where
     asked : cellOf (a .cells) SNROFFSTE ≡ 1
 
   offsets-sent : (st : State) (p : ℕ) (es : List Entry) → Within (st .cells) → Before es (st .cells) → Walks s l Unmet (firstItems 3 parameters) st p es (Sent st es)
-  unfolding bai-defaults fgain-default fgain-defaults convsnr parameters firstItems afterItems passes firm
+  unfolding _⧺_ bai-defaults fgain-default fgain-defaults convsnr parameters gain-parameters cpl-leak fgains snr-parameters snr-offsets bai-sent firstItems afterItems passes firm
   offsets-sent st p es w (inl h) = whole s l (keeps firm) _ refl st p es w (λ a q fs g k. record { goes = g; grows = k; sent = offsets-grow es fs k h })
   offsets-sent st p es w (inr h) =
       skip s l (keeps firm) 2 _ refl st p es w
@@ -131,7 +131,7 @@ module _ (s : List ℕ) (l : ℕ) where
   first-most = refl
 
   leaks-sent : (st : State) (p : ℕ) (es : List Entry) → Within (st .cells) → Leaky es (st .cells) → Walks s l Unmet (afterItems 5 (afterItems 3 parameters)) st p es (Leaked st es)
-  unfolding bai-defaults fgain-default fgain-defaults convsnr parameters afterItems passes firm
+  unfolding _⧺_ bai-defaults fgain-default fgain-defaults convsnr parameters gain-parameters cpl-leak fgains snr-parameters snr-offsets bai-sent afterItems passes firm
   leaks-sent st p es w h =
       walks-next s l Unmet _ _ st p es {M = Leaked st es} tt
       (walked-when s l Unmet _ _ st p es
@@ -171,7 +171,7 @@ module _ (s : List ℕ) (l : ℕ) where
     pub offsets-in : Offsets fs
 
   pub parameters-told : (st : State) (p : ℕ) (es : List Entry) → Within (st .cells) → Before es (st .cells) → Leaky es (st .cells) → Walks s l Unmet parameters st p es (Told st es)
-  unfolding bai-defaults fgain-default fgain-defaults convsnr parameters firstItems afterItems passes firm
+  unfolding _⧺_ bai-defaults fgain-default fgain-defaults convsnr parameters gain-parameters cpl-leak fgains snr-parameters snr-offsets bai-sent firstItems afterItems passes firm
   parameters-told st p es w b h =
       parts s l 3 parameters st p es (offsets-sent st p es w b)
       (λ a q fs c. skip s l (keeps firm) 5 _ refl a q fs (c .goes .within)

@@ -14,10 +14,10 @@ use Rattle.walk.specs.Cells.{State, cellOf, putIn, kept}
 use Rattle.walk.specs.CellNames.{CPLINU, FIRSTCPLLEAK, NUMBLKS}
 use Rattle.walk.specs.Syntax.{Block, meaning}
 use Rattle.walk.specs.Syntax.{_⧺_}
-use Rattle.annex.specs.Audblk.{dynamics, no-spx-channel, no-spx, spx-use, spx-strategy, spx-coordinates, cpl-strategy, cpl-coordinates, rematrixing, bandwidth, exponents, bai-defaults, fgain-default, fgain-defaults, convsnr, parameters, deltas, mantissas-of-block, audblk-dynamics, audblk-coupling, audblk-exponents, audblk-mantissas, audblk}
+use Rattle.annex.specs.Audblk.{dynamics, second-dynamics, dither-flags, block-switches, no-spx-channel, no-spx, spx-use, spx-bands, spx-strategy, spx-coordinates, spx-coordinates-of, cpl-strategy, cpl-use, cpl-coordinates, cpl-coordinates-of, rematrixing, rematrixing-bands, bandwidth, end-channel, end-coded, end-extended, end-coupled, bandwidth-channel, bandwidth-code, exponents, lfe-exponents, cpl-exponents, exponents-channel, exponents-held, exponents-sent, exponent-groups, exponent-group, exponent-bins, bai-defaults, fgain-default, fgain-defaults, convsnr, parameters, gain-parameters, cpl-leak, fgains, snr-parameters, snr-offsets, bai-sent, deltas, skip-field, delta-segments, mantissas-of-block, aht-lfe, aht-channel, audblk-dynamics, audblk-coupling, audblk-exponents, audblk-mantissas, audblk}
 use Rattle.annex.specs.Annex.{header, block-of, blocks-of, audblks, body}
-use Rattle.annex.specs.Audfrm.{fresh, expstre-sent, expstre-known, strategy-flags, block-flags, field-flags, frame-flags, coupling-use, cplblk-counted, ncplblks-by, flags, cplexpstr-by, chexpstr-by, expstr-by, block-strategies, lfeexpstr-by, lfe-strategies, convexpstr-by, conv-codes, conv-strategies, strategies, hybrid, fsnroffst-by, snroffsts, offsets, audfrm}
-use Rattle.annex.specs.Bsi.{numblks-by, nfchans-by, rates, loudness, loudness2, chanmaps, channels, bsi-head, mixdef3, mixing, info, bsi}
+use Rattle.annex.specs.Audfrm.{fresh, expstre-sent, expstre-known, strategy-flags, block-flags, field-flags, frame-flags, coupling-use, coupling-blocks, cplblk-counted, ncplblks-by, flags, cplexpstr-by, chexpstr-by, expstr-by, block-strategies, lfeexpstr-by, lfe-strategies, convexpstr-by, conv-codes, conv-strategies, strategies, frame-strategies, hybrid, hybrid-slots, fsnroffst-by, snroffsts, offsets, block-start-info, spx-attenuation, transient-processing, audfrm}
+use Rattle.annex.specs.Bsi.{numblks-by, nfchans-by, rates, loudness, loudness2, dual-mono, chanmaps, channels, bsi-head, mixdef3, mixing, mixing-metadata, info, additional-bsi, converted-frame, converter-sync, informational-metadata, bsi}
 use Rattle.eac3.specs.Frame.{start, bytesOf}
 use Rattle.annex.specs.Syncinfo.{syncinfo}
 use Rattle.annex.specs.Cells.{BLK, SNROFFSTSTR}
@@ -78,11 +78,11 @@ module _ (s : List ℕ) (l : ℕ) where
   sections = dynamics ∷ spx-strategy ∷ spx-coordinates ∷ cpl-strategy ∷ cpl-coordinates ∷ rematrixing ∷ bandwidth ∷ []
 
   pass-sections : allPass sections ≡ true
-  unfolding allPass sections passes steady dynamics no-spx-channel no-spx spx-use spx-strategy spx-coordinates cpl-strategy cpl-coordinates rematrixing bandwidth
+  unfolding allPass sections passes steady dynamics second-dynamics dither-flags block-switches no-spx-channel no-spx spx-use spx-bands spx-strategy spx-coordinates spx-coordinates-of cpl-strategy cpl-use cpl-coordinates cpl-coordinates-of rematrixing rematrixing-bands bandwidth end-channel end-coded end-extended end-coupled bandwidth-channel bandwidth-code
   pass-sections = refl
 
   pass-deltas : passes (keeps firm) deltas ≡ true
-  unfolding passes firm deltas
+  unfolding passes firm deltas skip-field delta-segments
   pass-deltas = refl
 
   -- a block from its beginning to its end
@@ -103,7 +103,7 @@ module _ (s : List ℕ) (l : ℕ) where
   allocated-cells x st = refl
 
   mantissas-walk : (n : ℕ) (st : State) (p : ℕ) (es : List Entry) → Allocating n st p es → Walks s l Unmet mantissas-of-block st p es (Blocked n)
-  unfolding mantissas-of-block passes steady
+  unfolding _⧺_ mantissas-of-block aht-lfe aht-channel passes steady
   mantissas-walk n st p es c =
       walks-next s l Unmet _ _ st p es {M = λ a q fs. (a .cells ≡ st .cells) × (fs ≡ es)} (λ _. c .ready)
       (walked-act s l Unmet 7 0 st p es (allocated-cells 0 st, refl))
@@ -164,7 +164,7 @@ module _ (s : List ℕ) (l : ℕ) where
       k
 
   block-walk : (n : ℕ) (st : State) (p : ℕ) (es : List Entry) → Going n es (st .cells) → Walks s l Unmet audblk st p es (Blocked n)
-  unfolding audblk-dynamics audblk-coupling audblk-exponents audblk-mantissas audblk joined sections _⧺_ dynamics no-spx-channel no-spx spx-use spx-strategy spx-coordinates cpl-strategy cpl-coordinates rematrixing bandwidth exponents bai-defaults fgain-default fgain-defaults convsnr parameters deltas mantissas-of-block
+  unfolding audblk-dynamics audblk-coupling audblk-exponents audblk-mantissas audblk joined sections _⧺_ dynamics second-dynamics dither-flags block-switches no-spx-channel no-spx spx-use spx-bands spx-strategy spx-coordinates spx-coordinates-of cpl-strategy cpl-use cpl-coordinates cpl-coordinates-of rematrixing rematrixing-bands bandwidth end-channel end-coded end-extended end-coupled bandwidth-channel bandwidth-code exponents lfe-exponents cpl-exponents exponents-channel exponents-held exponents-sent exponent-groups exponent-group exponent-bins bai-defaults fgain-default fgain-defaults convsnr parameters gain-parameters cpl-leak fgains snr-parameters snr-offsets bai-sent deltas skip-field delta-segments mantissas-of-block aht-lfe aht-channel
   block-walk n st p es g =
       pass n sections (exponents ⧺ parameters ⧺ deltas ⧺ mantissas-of-block) pass-sections st p es g (Blocked n)
       (λ a q fs g. walks-append s l Unmet exponents _ a q fs (covered s l a q fs (g .within))
@@ -263,7 +263,7 @@ module _ (s : List ℕ) (l : ℕ) where
   act-fresh x st = refl
 
   flags-walk : (st : State) (p : ℕ) (es : List Entry) → Within (st .cells) → Walks s l Unmet flags st p es Fresh
-  unfolding fresh expstre-sent expstre-known strategy-flags block-flags field-flags frame-flags coupling-use cplblk-counted ncplblks-by flags passes _⧺_
+  unfolding fresh expstre-sent expstre-known strategy-flags block-flags field-flags frame-flags coupling-use coupling-blocks cplblk-counted ncplblks-by flags passes _⧺_
   flags-walk st p es w =
       walks-next s l Unmet _ _ st p es {M = Fresh} (λ e. absurd (let z : ⊥ = omega arith in z))
       (walked-act s l Unmet 3 0 st p es
@@ -291,7 +291,7 @@ module _ (s : List ℕ) (l : ℕ) where
   }
 
   offsets-walk : (st : State) (p : ℕ) (es : List Entry) → Fresh st p es → Walks s l Unmet offsets st p es Framed
-  unfolding fsnroffst-by snroffsts offsets passes strung _⧺_
+  unfolding fsnroffst-by snroffsts offsets block-start-info spx-attenuation transient-processing passes strung _⧺_
   offsets-walk st p es c =
       walks-next s l Unmet _ _ st p es {M = Framed} tt
       (walked-when s l Unmet _ _ st p es
@@ -303,19 +303,19 @@ module _ (s : List ℕ) (l : ℕ) where
       (λ a q fs d. whole s l (keeps strung) _ refl a q fs (d .within) (λ b r gs g h. framed-kept a q fs b r gs g h d))
 
   pass-strategies : passes (keeps []) strategies ≡ true
-  unfolding passes cplexpstr-by chexpstr-by expstr-by block-strategies lfeexpstr-by lfe-strategies convexpstr-by conv-codes conv-strategies strategies _⧺_
+  unfolding passes cplexpstr-by chexpstr-by expstr-by block-strategies lfeexpstr-by lfe-strategies convexpstr-by conv-codes conv-strategies strategies frame-strategies _⧺_
   pass-strategies = refl
 
   pass-hybrid : passes (keeps []) hybrid ≡ true
-  unfolding passes hybrid
+  unfolding passes hybrid hybrid-slots
   pass-hybrid = refl
 
   pass-bsi : passes (keeps []) bsi ≡ true
-  unfolding passes _⧺_ numblks-by nfchans-by rates loudness loudness2 chanmaps channels bsi-head mixdef3 mixing info bsi
+  unfolding passes _⧺_ numblks-by nfchans-by rates loudness loudness2 dual-mono chanmaps channels bsi-head mixdef3 mixing mixing-metadata info additional-bsi converted-frame converter-sync informational-metadata bsi
   pass-bsi = refl
 
   frame-walk : (st : State) (p : ℕ) (es : List Entry) → Within (st .cells) → Walks s l Unmet audfrm st p es Framed
-  unfolding audfrm
+  unfolding _⧺_ audfrm
   frame-walk st p es w =
       walks-append s l Unmet flags _ st p es (flags-walk st p es w)
       (λ a q fs c. walks-append s l Unmet strategies _ a q fs (whole s l (keeps []) strategies pass-strategies a q fs (c .within) (λ b r gs g h. fresh-kept [] a q fs b r gs g h c))
@@ -323,7 +323,7 @@ module _ (s : List ℕ) (l : ℕ) where
       (λ a q fs c. offsets-walk a q fs c)))
 
   pub body-walk : (st : State) (p : ℕ) (es : List Entry) → Within (st .cells) → Walks s l Unmet body st p es Some
-  unfolding body
+  unfolding _⧺_ body
   body-walk st p es w =
       walks-append s l Unmet bsi _ st p es (whole s l (keeps []) bsi pass-bsi st p es w (λ a q fs g h. g .within))
       (λ a q fs w. walks-append s l Unmet audfrm _ a q fs (frame-walk a q fs w) (λ b r gs c. blocks-walk b r gs c))

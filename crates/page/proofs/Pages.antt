@@ -1,13 +1,11 @@
 -- Blocks of a page in code, one after another. Assumes nothing.
 use mathlib.Core.Bool.{Bool, true, false, cond}
-use mathlib.Core.List.{List, map}
+use mathlib.Core.List.{List}
 use mathlib.Core.Path.{_≡_, refl, sym, ap, subst, _∙_}
-use Prim.Native.Nat.{ℕ, _+_, _*_, _≤_}
+use Prim.Native.Nat.{ℕ, _+_, _*_}
 use native.Mathlib.Omega.{arith}
-use lib.Dec.{eqb}
-use lib.ListN.{length, drop, length-map}
-use borrow.Author.Tests.{eqb-true, eq-eqb, ne-eqb}
-use Rattle.reading.specs.Tree.{Tree, done, refuse, _>>=_}
+use borrow.Author.Tests.{ne-eqb}
+use Rattle.reading.specs.Tree.{Tree, _>>=_}
 use Rattle.reading.specs.Run.{accepted, refused}
 use Rattle.reading.specs.Room.{Room, Out, got, exec}
 use Rattle.reading.proofs.Rooms.{go-on, _then_, exec-bind}
@@ -16,24 +14,19 @@ use Rattle.syntax.specs.Records.{told, haltedAt}
 use Rattle.syntax.specs.declared.Cursor.{Cursor}
 use Rattle.blocks.specs.Held.{Held}
 use Rattle.blocks.specs.Memo.{Memo}
-use Rattle.walk.specs.Cells.{State, state, cellOf, putIn, placeOf, heldOf, sumOf, kept}
-use Rattle.walk.specs.Rows.{holdsOf, amountOf}
-use Rattle.walk.specs.Syntax.{Item, Block, element, span, scan, when, reject, each, put, act, end, _⨾_, _⧺_, item, meaning, ended, row, flat, rowsOf, size, cell, no, none}
-use Rattle.walk.specs.Steps.{Took, asked, io}
-use Rattle.walk.specs.declared.cells.Addr.{Addr}
-use Rattle.walk.specs.declared.cells.Sum.{Sum}
+use Rattle.walk.specs.Cells.{State, state, cellOf, putIn, placeOf, heldOf}
+use Rattle.walk.specs.Rows.{holdsOf}
+use Rattle.walk.specs.Syntax.{Block, element, when, reject, put, act, end, _⨾_, _⧺_, meaning, cell, no, none}
+use Rattle.walk.specs.Steps.{Took, io}
 use Rattle.walk.specs.declared.table.Cond.{Cond}
-use Rattle.walk.specs.declared.table.Row.{Row}
 use Rattle.walk.specs.declared.table.Value.the-variants.{Let}
 use Rattle.walk.specs.declared.steps.Ask.{Ask}
-use Rattle.walk.specs.Rows.{rowOf}
 use Rattle.walk.specs.Acts.{actOf}
 use Rattle.walk.specs.Cells.{Acted, acted}
-use Rattle.walk.specs.Stands.{Stands, Ran}
+use Rattle.walk.specs.Stands.{Ran}
 use Rattle.walk.proofs.ExpActs.{act-held}
-use Rattle.walk.proofs.Blocks.{meaning-append, flat-append, size-append, drop-row, drop-flat}
-use lib.Seq.{drop-drop}
-use Rattle.page.specs.Page.{after, askOf, Reads, Runs, Calms, Elements, Optional, Rejects, Sets, Guarded, Ranged, Derives}
+use Rattle.walk.proofs.Blocks.{meaning-append}
+use Rattle.page.specs.Page.{after, askOf, Reads, Runs, Calms, Elements, Optional, Rejects, Sets, Ranged, Guards, Derives}
 
 -- a cell by its number alone
 pub place-cell : (k : ℕ) (m : List ℕ) → k ≡ placeOf (cell k) m
@@ -212,72 +205,26 @@ module _ (k : ℕ) (c : Cursor) (st : State) where
       right = acts .1;
     }
 
--- rows, if a condition holds
-module _ (s : List ℕ) (l : ℕ) (t : List ℕ) (on : Bool) (from to : ℕ) (c : Cursor) (st : State) (z : Room) (mem : List ℕ) (hh : Held (st .bins)) (hr : Memo mem (st .bins)) where
-  pub guarded-stopped : c .stopped ≡ true → Guarded s l t on from to c st z c st z mem
-  guarded-stopped h = record { is = λ b k q e. record { is = after-stopped s l (when q b ⨾ end) c st z h; held = hh; right = hr }; held = hh; right = hr }
+-- the rows of a table
+module _ (s : List ℕ) (l : ℕ) (t : List ℕ) (to : ℕ) (c : Cursor) (st : State) (z : Room) where
+  pub ranged-stopped : (mem : List ℕ) → Held (st .bins) → Memo mem (st .bins) → c .stopped ≡ true → Ranged s l t to c st z c st z mem
+  ranged-stopped mem hh hr h = record { is = λ b k. record { is = after-stopped s l b c st z h; held = hh; right = hr }; held = hh; right = hr }
 
-  pub guarded-off : on ≡ false → Guarded s l t on from to c st z c st z mem
-  guarded-off h = record { is = λ b k q e. record { is = when-off s l b q c st z (sym e ∙ h); held = hh; right = hr }; held = hh; right = hr }
+  pub ranged-on : c .stopped ≡ false → (c′ : Cursor) (st′ : State) (z′ : Room) (mem′ : List ℕ) → Ran s l t 0 to c st z c′ st′ z′ mem′ → Ranged s l t to c st z c′ st′ z′ mem′
+  ranged-on h c′ st′ z′ mem′ r = record {
+    is = λ b k. record { is = after-live s l b c st z _ h (r .runs b k); held = r .held; right = r .right };
+    held = r .held;
+    right = r .right;
+  }
 
-pub guarded-on : (s : List ℕ) (l : ℕ) (t : List ℕ) (on : Bool) (from to : ℕ) (c : Cursor) (st : State) (z : Room) → c .stopped ≡ false → on ≡ true
-    → (c′ : Cursor) (st′ : State) (z′ : Room) (mem′ : List ℕ) → Ran s l t from to c st z c′ st′ z′ mem′ → Guarded s l t on from to c st z c′ st′ z′ mem′
-guarded-on s l t on from to c st z h ho c′ st′ z′ mem′ r = record {
-  is = λ b k q e. record { is = after-live s l b c st z _ h (r .runs b k) ∙ when-on s l b q c st z (sym e ∙ ho); held = r .held; right = r .right };
-  held = r .held;
-  right = r .right;
-}
+-- a block that is run, if a condition holds
+module _ (s : List ℕ) (l : ℕ) (b : Block) (on : Bool) (c : Cursor) (st : State) (z : Room) where
+  pub guards-on : on ≡ true → (c′ : Cursor) (st′ : State) (z′ : Room) (mem′ : List ℕ) → Runs s l b c st z c′ st′ z′ mem′ → Guards s l b on c st z c′ st′ z′ mem′
+  guards-on h c′ st′ z′ mem′ x = record { is = λ q e. record { is = x .is ∙ when-on s l b q c st z (sym e ∙ h); held = x .held; right = x .right }; held = x .held; right = x .right }
 
--- rows, whatever holds
-pub ranged-stopped : (s : List ℕ) (l : ℕ) (t : List ℕ) (from to : ℕ) (c : Cursor) (st : State) (z : Room) (mem : List ℕ) → Held (st .bins) → Memo mem (st .bins) → c .stopped ≡ true
-    → Ranged s l t from to c st z c st z mem
-ranged-stopped s l t from to c st z mem hh hr h = record { is = λ b k. record { is = after-stopped s l b c st z h; held = hh; right = hr }; held = hh; right = hr }
-
-pub ranged-on : (s : List ℕ) (l : ℕ) (t : List ℕ) (from to : ℕ) (c : Cursor) (st : State) (z : Room) → c .stopped ≡ false
-    → (c′ : Cursor) (st′ : State) (z′ : Room) (mem′ : List ℕ) → Ran s l t from to c st z c′ st′ z′ mem′ → Ranged s l t from to c st z c′ st′ z′ mem′
-ranged-on s l t from to c st z h c′ st′ z′ mem′ r = record {
-  is = λ b k. record { is = after-live s l b c st z _ h (r .runs b k); held = r .held; right = r .right };
-  held = r .held;
-  right = r .right;
-}
+  pub guards-off : on ≡ false → (mem : List ℕ) → Held (st .bins) → Memo mem (st .bins) → Guards s l b on c st z c st z mem
+  guards-off h mem hh hr = record { is = λ q e. record { is = when-off s l b q c st z (sym e ∙ h); held = hh; right = hr }; held = hh; right = hr }
 
 -- what a block comes to after a reading that is not stopped
 pub live-exec : (s : List ℕ) (l : ℕ) (b : Block) (c : Cursor) (st : State) (z : Room) → c .stopped ≡ false → after s l b c st z ≡ exec s l (meaning b st) (c .at .0) (c .count) z
 live-exec s l b c st z h = rw h refl
-
--- where the parts of a block stand
-module _ (t : List ℕ) where
-  past : (n j : ℕ) (l r : List Row) → drop j (map rowOf t) ≡ l → drop n l ≡ r → drop (j + n) (map rowOf t) ≡ r
-  past n j l r e f = sym (drop-drop n j (map rowOf t)) ∙ ap (drop n) e ∙ f
-
-  pub stands-first : (a b : Block) (from to : ℕ) → Stands t (a ⧺ b) from to → Stands t a from (from + size a)
-  stands-first a b from to h = record {
-    rows = h .rows ∙ flat-append a b _ ∙ ap (flat a) (sym (past (size a) from _ _ (h .rows ∙ flat-append a b _) (drop-flat a _)));
-    ends = refl;
-    room = omega (arith, h .room, h .ends, size-append a b);
-  }
-
-  pub stands-rest : (a b : Block) (from to : ℕ) → Stands t (a ⧺ b) from to → Stands t b (from + size a) to
-  stands-rest a b from to h = record {
-    rows = past (size a) from _ _ (h .rows ∙ flat-append a b _) (drop-flat a _);
-    ends = omega (arith, h .ends, size-append a b);
-    room = h .room;
-  }
-
-  pub stands-next : (i : Item) (b : Block) (from to : ℕ) → Stands t (i ⨾ b) from to → Stands t b (from + rowsOf i) to
-  unfolding flat
-  stands-next i b from to h = record {
-    rows = past (rowsOf i) from _ _ (h .rows) (drop-row i _);
-    ends = omega (arith, h .ends);
-    room = h .room;
-  }
-
-  pub stands-guarded : (q : Cond) (a b : Block) (from to : ℕ) → Stands t (when q a ⨾ b) from to → Stands t a (from + 1) (from + 1 + size a)
-  unfolding flat
-  stands-guarded q a b from to h =
-      let e : drop (from + 1) (map rowOf t) ≡ flat a (flat b (drop to (map rowOf t))) = past 1 from _ _ (h .rows) refl in
-      record {
-        rows = e ∙ ap (flat a) (sym (past (size a) (from + 1) _ _ e (drop-flat a _)));
-        ends = refl;
-        room = omega (arith, h .room, h .ends);
-      }

@@ -8,17 +8,21 @@ ghost use Rattle.walk.specs.Cells.{state};
 ghost use Rattle.walk.specs.Rows.{holdsOf};
 ghost use Rattle.walk.specs.Syntax.{element as elementOf, put as putOf, end, _⨾_, none, no, cell};
 ghost use Rattle.walk.specs.declared.table.Cond.the-variants.{Is, Not, Above, Below, Differs};
-ghost use Rattle.walk.specs.declared.table.Value.the-variants.{Let};
+ghost use Rattle.walk.specs.declared.table.Value.the-variants.{Let, Plus, Here};
 ghost use Rattle.blocks.specs.Held.{Held};
 ghost use Rattle.blocks.specs.Memo.{Memo};
-ghost use Rattle.page.specs.Page.{askOf, Reads, Calms, Elements, Optional, Rejects, Sets, Paged, Guarded, Ranged, Derives};
+ghost use Rattle.page.specs.Page.{askOf, Reads, Calms, Elements, Optional, Scans, Rejects, Sets, Checks, Paged, Ranged, Derives};
 use bits::BitPlace;
 use syntax::Cursor;
 use syntax::halted;
 use walk::acts::act;
+use walk::cells::Addr;
 use walk::cells::BLOCK;
 use walk::cells::cell_of;
+use walk::cells::held;
+use walk::cells::place;
 use walk::cells::put;
+use walk::inputs;
 use walk::inputs::take;
 use walk::rows;
 use walk::steps::Ask;
@@ -55,6 +59,31 @@ pub fn differs(cells: &[u16; 640], k: usize, j: usize) -> bool
     cell_of(cells, k) != cell_of(cells, j)
 }
 
+// Conditions on a cell of an array.
+pub fn is_at(cells: &[u16; 640], a: Addr, v: u16) -> bool
+    ensures { λ r. ⌜ r ≡ holdsOf (Is a v) (now (cells .entry)) ⌝ }
+{
+    held(a, cells) == v
+}
+
+pub fn not_at(cells: &[u16; 640], a: Addr, v: u16) -> bool
+    ensures { λ r. ⌜ r ≡ holdsOf (Not a v) (now (cells .entry)) ⌝ }
+{
+    held(a, cells) != v
+}
+
+pub fn above_at(cells: &[u16; 640], a: Addr, v: u16) -> bool
+    ensures { λ r. ⌜ r ≡ holdsOf (Above a v) (now (cells .entry)) ⌝ }
+{
+    v < held(a, cells)
+}
+
+pub fn differs_at(cells: &[u16; 640], a: Addr, b: Addr) -> bool
+    ensures { λ r. ⌜ r ≡ holdsOf (Differs a b) (now (cells .entry)) ⌝ }
+{
+    held(a, cells) != held(b, cells)
+}
+
 // A number put into a cell; and one that is made of another cell.
 pub fn set(cells: &mut [u16; 640], k: usize, v: u32)
     ensures { λ _. ⌜ Calms (putOf (cell k) (Let v 0 no) ⨾ end) (now (cells .entry)) (now (cells .exit)) ⌝ }
@@ -75,6 +104,38 @@ pub fn set_by(cells: &mut [u16; 640], k: usize, x: u16, y: u16, j: usize)
 {
     let v = linear(x, y, cell_of(cells, j));
     put(cells, k, v);
+}
+
+// A number that is made of one cell of an array, put into another.
+pub fn set_at(cells: &mut [u16; 640], a: Addr, x: u16, y: u16, b: Addr)
+    requires { ⌜ x ≤ 2047 ⌝ }
+    ensures { λ _. ⌜ Calms (putOf a (Let x y b) ⨾ end) (now (cells .entry)) (now (cells .exit)) ⌝ }
+{
+    let k = place(a, cells);
+    let v = linear(x, y, held(b, cells));
+    put(cells, k, v);
+}
+
+// A cell added to another.
+fn total(x: u16, y: u16) -> u32
+    ensures { λ r. ⌜ r ≡ x + y ⌝ }
+{
+    x as u32 + y as u32
+}
+
+pub fn add(cells: &mut [u16; 640], k: usize, j: usize)
+    ensures { λ _. ⌜ Calms (putOf (cell k) (Plus (cell j)) ⨾ end) (now (cells .entry)) (now (cells .exit)) ⌝ }
+{
+    let v = total(cell_of(cells, k), cell_of(cells, j));
+    put(cells, k, v);
+}
+
+// The place of the reading, put into a cell.
+pub fn mark(cells: &mut [u16; 640], cur: Cursor, a: Addr)
+    ensures { λ _. ⌜ Checks (putOf a Here ⨾ end) cur (now (cells .entry)) cur (now (cells .exit)) ⌝ }
+{
+    let k = place(a, cells);
+    put(cells, k, cur.at.0 as u32);
 }
 
 // A number put into a cell, if the condition holds.
@@ -252,8 +313,8 @@ pub fn derive(
     cur
 }
 
-// The rows of a part that few frames have, if the condition holds.
-pub fn rows_when(
+// The mantissas of a block; the cell k keeps the number of their tags.
+pub fn scan(
     src: &[u8],
     names: &mut [u8],
     blocks: &mut [i8],
@@ -261,46 +322,39 @@ pub fn rows_when(
     firsts: &mut [u16],
     widths: &mut [u16],
     values: &mut [u32],
-    table: &[u64; 640],
     cells: &mut [u16; 640],
-    bins: &mut [u8; 3584],
-    memo: &mut [u8; 2128],
+    bins: &[u8; 3584],
     cur: Cursor,
     limit: BitPlace,
-    on: bool,
-    from: usize,
-    to: usize,
+    name: u8,
+    k: usize,
 ) -> Cursor
-    requires { ⌜ Paged (now src) (limit .0) (now table) (now bins) (now memo) from to ⌝ }
-    ensures { λ r. ⌜ Guarded (now (src .entry)) (limit .0) (now (table .entry)) on from to cur (state (now (cells .entry)) (now (bins .entry))) (room (now (names .entry)) (now (blocks .entry)) (now (indexes .entry)) (now (firsts .entry)) (now (widths .entry)) (now (values .entry)))
-        r (state (now (cells .exit)) (now (bins .exit))) (room (now (names .exit)) (now (blocks .exit)) (now (indexes .exit)) (now (firsts .exit)) (now (widths .exit)) (now (values .exit))) (now (memo .exit)) ⌝ }
+    requires { ⌜ (Held (now bins)) × (limit .0 ≤ 8 * length (now src)) ⌝ }
+    ensures { λ r. ⌜ Scans (now (src .entry)) (limit .0) name k cur (now (cells .entry)) (now (bins .entry)) (room (now (names .entry)) (now (blocks .entry)) (now (indexes .entry)) (now (firsts .entry)) (now (widths .entry)) (now (values .entry)))
+        r (now (cells .exit)) (room (now (names .exit)) (now (blocks .exit)) (now (indexes .exit)) (now (firsts .exit)) (now (widths .exit)) (now (values .exit))) ⌝ }
 {
     if cur.stopped {
         return cur;
     }
-    if on {
-        return rows(
-            src,
-            names,
-            blocks,
-            indexes,
-            firsts,
-            widths,
-            values,
-            table,
-            cells,
-            bins,
-            memo,
-            cur,
-            limit,
-            from,
-            to,
-        );
-    }
-    cur
+    inputs::scan(
+        src,
+        names,
+        blocks,
+        indexes,
+        firsts,
+        widths,
+        values,
+        cells,
+        bins,
+        cur.at,
+        cur.count,
+        limit,
+        name,
+        k,
+    )
 }
 
-// The rows of a part, whatever it is.
+// The rows of a table, as far as `to`.
 pub fn rows_on(
     src: &[u8],
     names: &mut [u8],
@@ -309,17 +363,16 @@ pub fn rows_on(
     firsts: &mut [u16],
     widths: &mut [u16],
     values: &mut [u32],
-    table: &[u64; 640],
+    table: &[u64],
     cells: &mut [u16; 640],
     bins: &mut [u8; 3584],
     memo: &mut [u8; 2128],
     cur: Cursor,
     limit: BitPlace,
-    from: usize,
     to: usize,
 ) -> Cursor
-    requires { ⌜ Paged (now src) (limit .0) (now table) (now bins) (now memo) from to ⌝ }
-    ensures { λ r. ⌜ Ranged (now (src .entry)) (limit .0) (now (table .entry)) from to cur (state (now (cells .entry)) (now (bins .entry))) (room (now (names .entry)) (now (blocks .entry)) (now (indexes .entry)) (now (firsts .entry)) (now (widths .entry)) (now (values .entry)))
+    requires { ⌜ Paged (now src) (limit .0) (now table) (now bins) (now memo) to ⌝ }
+    ensures { λ r. ⌜ Ranged (now (src .entry)) (limit .0) (now (table .entry)) to cur (state (now (cells .entry)) (now (bins .entry))) (room (now (names .entry)) (now (blocks .entry)) (now (indexes .entry)) (now (firsts .entry)) (now (widths .entry)) (now (values .entry)))
         r (state (now (cells .exit)) (now (bins .exit))) (room (now (names .exit)) (now (blocks .exit)) (now (indexes .exit)) (now (firsts .exit)) (now (widths .exit)) (now (values .exit))) (now (memo .exit)) ⌝ }
 {
     if cur.stopped {
@@ -339,7 +392,7 @@ pub fn rows_on(
         memo,
         cur,
         limit,
-        from,
+        0,
         to,
     )
 }

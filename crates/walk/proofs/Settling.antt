@@ -6,7 +6,7 @@ use mathlib.Core.List.{List, []}
 use native.Mathlib.Omega.{arith}
 use native.Mathlib.Numerals.{add-one}
 use native.Mathlib.Decide.{decLt}
-use lib.ListN.{getD, length-map}
+use lib.ListN.{length, getD, length-map}
 use Rattle.reading.specs.Tree.{Tree, done}
 use Rattle.reading.specs.Run.{accepted, refused}
 use Rattle.reading.specs.Room.{Room, Out, got, exec}
@@ -40,6 +40,9 @@ at-end t pc to (i ⨾ r) k h st = absurd (none i r k)
 
 pub standing-end : {t : List ℕ} {from to : ℕ} → Standing t from to → to ≤ 640
 standing-end {t} h = omega (arith, h .stands .room, length-map t rowOf, h .sized)
+
+pub standing-room : {t : List ℕ} {from to : ℕ} → Standing t from to → to ≤ length t
+standing-room {t} h = omega (arith, h .stands .room, length-map t rowOf)
 
 pub standing-within : {t : List ℕ} {from to : ℕ} → Standing t from to → from ≤ to
 standing-within h = omega (arith, h .stands .ends)

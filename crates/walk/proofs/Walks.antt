@@ -342,6 +342,9 @@ turned-once s l t from to c st m c′ st′ m′ mem′ h = record {
 pub stand-end : {s : List ℕ} {l : ℕ} {t bins mem : List ℕ} {c : Cursor} {from to : ℕ} → Stand s l t bins mem c from to → to ≤ 640
 stand-end {t} h = omega (arith, h .stands .room, length-map t rowOf, h .table .sized)
 
+pub stand-room : {s : List ℕ} {l : ℕ} {t bins mem : List ℕ} {c : Cursor} {from to : ℕ} → Stand s l t bins mem c from to → to ≤ length t
+stand-room {t} h = omega (arith, h .stands .room, length-map t rowOf)
+
 pub within-stand : {s : List ℕ} {l : ℕ} {t bins mem : List ℕ} {c : Cursor} {from to : ℕ} → Stand s l t bins mem c from to → from ≤ to
 within-stand h = omega (arith, h .stands .ends)
 

@@ -13,11 +13,11 @@ use Rattle.walk.specs.Stands.{Stands}
 use Rattle.walk.specs.declared.steps.Calm.{Calm}
 use Rattle.walk.specs.declared.steps.Calm.the-variants.{On, Off}
 
--- some block stands there, in a table of 640 rows
+-- some block stands there, in a table of no more than 640 rows
 pub record Standing (t : List ℕ) (from to : ℕ) : Type 0 where
   pub what : Block
   pub stands : Stands t what from to
-  pub sized : length t ≡ 640
+  pub sized : length t ≤ 640
 
 -- a run from one row on has come to another, with the cells m′
 pub record Leads (t : List ℕ) (from to p : ℕ) (m m′ : List ℕ) (k : ℕ) : Type 0 where

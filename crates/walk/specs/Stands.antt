@@ -39,9 +39,9 @@ unfoldable pub allNarrow : List Row → Bool
 allNarrow [] = true
 allNarrow (r ∷ rs) = narrow r && allNarrow rs
 
--- what the code asks of a table: 640 rows, no element too wide
+-- what the code asks of a table: no more than 640 rows, no element too wide
 pub record Table (t : List ℕ) : Type 0 where
-  pub sized : length t ≡ 640
+  pub sized : length t ≤ 640
   pub narrows : allNarrow (map rowOf t) ≡ true
 
 -- the rows of some block stand there, the frame ends within the data, no exponent is too large, what is kept of allocations is right, and the run is not stopped

@@ -127,13 +127,7 @@ fn set(w: u64, here: BitPlace, cells: &mut [u16; 640])
 }
 
 // The still rows from `from` on: conditions, refusals and values.
-pub fn settle(
-    table: &[u64; 640],
-    cells: &mut [u16; 640],
-    from: usize,
-    to: usize,
-    here: BitPlace,
-) -> Calm
+pub fn settle(table: &[u64], cells: &mut [u16; 640], from: usize, to: usize, here: BitPlace) -> Calm
     requires { ⌜ Standing (now table) from to ⌝ }
     ensures { λ r. ⌜ Settles (now (table .entry)) from to (here .0) (now (cells .entry)) (now (cells .exit)) r ⌝ }
 {
@@ -169,7 +163,7 @@ fn still(w: u64) -> bool
 }
 
 // Whether all rows from `from` to `to` are still.
-pub fn quiet(table: &[u64; 640], from: usize, to: usize) -> bool
+pub fn quiet(table: &[u64], from: usize, to: usize) -> bool
     requires { ⌜ Standing (now table) from to ⌝ }
     ensures { λ r. ⌜ Hushed r (now (table .entry)) from to ⌝ }
 {
@@ -184,7 +178,7 @@ pub fn quiet(table: &[u64; 640], from: usize, to: usize) -> bool
 }
 
 // Whether all rows from `from` to `to` are elements and derivations.
-pub fn plain(table: &[u64; 640], from: usize, to: usize) -> bool
+pub fn plain(table: &[u64], from: usize, to: usize) -> bool
     requires { ⌜ Standing (now table) from to ⌝ }
     ensures { λ r. ⌜ Plain r (now (table .entry)) from to ⌝ }
 {
@@ -200,7 +194,7 @@ pub fn plain(table: &[u64; 640], from: usize, to: usize) -> bool
 
 // Still rows, once for each number from i up to n, which stands in a cell meanwhile.
 pub fn stir(
-    table: &[u64; 640],
+    table: &[u64],
     cells: &mut [u16; 640],
     from: usize,
     to: usize,

@@ -1,28 +1,20 @@
-use Rattle.page.proofs.Pages.{reads-more, reads-is, calms-reads, reads-runs, runs-more, runs-is, stands-first, stands-rest, stands-next, stands-guarded}
+use Rattle.page.proofs.Pages.{runs-more, runs-is}
 use mathlib.Core.Path.{refl, _∙_}
-use native.Mathlib.Omega.{arith}
-use Rattle.walk.specs.Syntax.{_⧺_, size}
-use Rattle.annex.specs.Audblk.{audblk, audblk-dynamics, audblk-coupling, audblk-exponents, audblk-mantissas, dynamics, spx-strategy, spx-coordinates, spx-use, no-spx, no-spx-channel, cpl-strategy, cpl-coordinates, rematrixing, bandwidth, exponents, parameters, bai-defaults, fgain-default, fgain-defaults, convsnr, deltas, mantissas-of-block}
-use borrow.Author.Needs.{needs}
+use Rattle.annex.specs.Audblk.{audblk}
 use Rattle.audblk.proofs.audblk.Statement.{statement}
 use Rattle.audblk.proofs.audblk.Tie as tie
-use Rattle.audblk.proofs.audblk.Lts as lts
 
 block-dynamics-requires : tie.Need-block-dynamics-requires
-unfolding audblk audblk-dynamics audblk-coupling audblk-exponents audblk-mantissas dynamics spx-strategy spx-coordinates spx-use no-spx no-spx-channel cpl-strategy cpl-coordinates rematrixing bandwidth exponents parameters bai-defaults fgain-default fgain-defaults convsnr deltas mantissas-of-block size _⧺_
-block-dynamics-requires c κs = record { stands = stands-first _ audblk-dynamics (audblk-coupling ⧺ audblk-exponents ⧺ audblk-mantissas) _ _ (c .before .before .before .before .before .before .before .before .before .before .before .before .before .before .pre .stands); table = c .before .before .before .before .before .before .before .before .before .before .before .before .before .before .pre .table; within = c .before .before .before .before .before .before .before .before .before .before .before .before .before .before .pre .within; held = c .before .before .before .before .before .before .before .before .before .before .before .before .before .before .pre .held; right = c .before .before .before .before .before .before .before .before .before .before .before .before .before .before .pre .right }
+block-dynamics-requires c κs = record { within = c .before .before .before .before .before .before .before .before .before .before .before .before .before .before .pre .within; held = c .before .before .before .before .before .before .before .before .before .before .before .before .before .before .pre .held; right = c .before .before .before .before .before .before .before .before .before .before .before .before .before .before .pre .right }
 
 block-coupling-requires : tie.Need-block-coupling-requires
-unfolding audblk audblk-dynamics audblk-coupling audblk-exponents audblk-mantissas dynamics spx-strategy spx-coordinates spx-use no-spx no-spx-channel cpl-strategy cpl-coordinates rematrixing bandwidth exponents parameters bai-defaults fgain-default fgain-defaults convsnr deltas mantissas-of-block size _⧺_
-block-coupling-requires c κs = record { stands = stands-first _ audblk-coupling (audblk-exponents ⧺ audblk-mantissas) _ _ (stands-rest _ audblk-dynamics (audblk-coupling ⧺ audblk-exponents ⧺ audblk-mantissas) _ _ (c .before .before .before .before .before .before .before .before .before .before .before .before .before .before .before .before .before .before .before .before .before .before .before .before .before .before .before .before .before .before .before .before .before .before .pre .stands)); table = c .before .before .before .before .before .before .before .before .before .before .before .before .before .before .before .before .before .before .before .before .before .before .before .before .before .before .before .before .before .before .before .before .before .before .pre .table; within = c .before .before .before .before .before .before .before .before .before .before .before .before .before .before .before .before .before .before .before .before .before .before .before .before .before .before .before .before .before .before .before .before .before .before .pre .within; held = c .before .before .before .before .before .before .before .before .before .before .before .before .before .before .before .before .before .before .before .block-dynamics .ensures .held; right = c .before .before .before .before .before .before .before .before .before .before .before .before .before .before .before .before .before .before .before .block-dynamics .ensures .right }
+block-coupling-requires c κs = record { within = c .before .before .before .before .before .before .before .before .before .before .before .before .before .before .before .before .before .before .before .before .before .before .before .before .before .before .before .before .before .before .before .before .before .before .pre .within; held = c .before .before .before .before .before .before .before .before .before .before .before .before .before .before .before .before .before .before .before .block-dynamics .ensures .held; right = c .before .before .before .before .before .before .before .before .before .before .before .before .before .before .before .before .before .before .before .block-dynamics .ensures .right }
 
 block-exponents-requires : tie.Need-block-exponents-requires
-unfolding audblk audblk-dynamics audblk-coupling audblk-exponents audblk-mantissas dynamics spx-strategy spx-coordinates spx-use no-spx no-spx-channel cpl-strategy cpl-coordinates rematrixing bandwidth exponents parameters bai-defaults fgain-default fgain-defaults convsnr deltas mantissas-of-block size _⧺_
-block-exponents-requires c κs = record { stands = stands-first _ audblk-exponents (audblk-mantissas) _ _ (stands-rest _ audblk-coupling (audblk-exponents ⧺ audblk-mantissas) _ _ (stands-rest _ audblk-dynamics (audblk-coupling ⧺ audblk-exponents ⧺ audblk-mantissas) _ _ (c .before .before .before .before .before .before .before .before .before .before .before .before .before .before .before .before .before .before .before .before .before .before .before .before .before .before .before .before .before .before .before .before .before .before .before .before .before .before .before .before .before .before .before .before .before .before .before .before .before .before .before .before .before .before .pre .stands))); table = c .before .before .before .before .before .before .before .before .before .before .before .before .before .before .before .before .before .before .before .before .before .before .before .before .before .before .before .before .before .before .before .before .before .before .before .before .before .before .before .before .before .before .before .before .before .before .before .before .before .before .before .before .before .before .pre .table; within = c .before .before .before .before .before .before .before .before .before .before .before .before .before .before .before .before .before .before .before .before .before .before .before .before .before .before .before .before .before .before .before .before .before .before .before .before .before .before .before .before .before .before .before .before .before .before .before .before .before .before .before .before .before .before .pre .within; held = c .before .before .before .before .before .before .before .before .before .before .before .before .before .before .before .before .before .before .before .block-coupling .ensures .held; right = c .before .before .before .before .before .before .before .before .before .before .before .before .before .before .before .before .before .before .before .block-coupling .ensures .right }
+block-exponents-requires c κs = record { within = c .before .before .before .before .before .before .before .before .before .before .before .before .before .before .before .before .before .before .before .before .before .before .before .before .before .before .before .before .before .before .before .before .before .before .before .before .before .before .before .before .before .before .before .before .before .before .before .before .before .before .before .before .before .before .pre .within; held = c .before .before .before .before .before .before .before .before .before .before .before .before .before .before .before .before .before .before .before .block-coupling .ensures .held; right = c .before .before .before .before .before .before .before .before .before .before .before .before .before .before .before .before .before .before .before .block-coupling .ensures .right }
 
 block-mantissas-requires : tie.Need-block-mantissas-requires
-unfolding audblk audblk-dynamics audblk-coupling audblk-exponents audblk-mantissas dynamics spx-strategy spx-coordinates spx-use no-spx no-spx-channel cpl-strategy cpl-coordinates rematrixing bandwidth exponents parameters bai-defaults fgain-default fgain-defaults convsnr deltas mantissas-of-block size _⧺_
-block-mantissas-requires c κs = record { stands = stands-rest _ audblk-exponents (audblk-mantissas) _ _ (stands-rest _ audblk-coupling (audblk-exponents ⧺ audblk-mantissas) _ _ (stands-rest _ audblk-dynamics (audblk-coupling ⧺ audblk-exponents ⧺ audblk-mantissas) _ _ (c .before .before .before .before .before .before .before .before .before .before .before .before .before .before .before .before .before .before .before .before .before .before .before .before .before .before .before .before .before .before .before .before .before .before .before .before .before .before .before .before .before .before .before .before .before .before .before .before .before .before .before .before .before .before .before .before .before .before .before .before .before .before .before .before .before .before .before .before .before .before .before .before .before .before .pre .stands))); table = c .before .before .before .before .before .before .before .before .before .before .before .before .before .before .before .before .before .before .before .before .before .before .before .before .before .before .before .before .before .before .before .before .before .before .before .before .before .before .before .before .before .before .before .before .before .before .before .before .before .before .before .before .before .before .before .before .before .before .before .before .before .before .before .before .before .before .before .before .before .before .before .before .before .before .pre .table; within = c .before .before .before .before .before .before .before .before .before .before .before .before .before .before .before .before .before .before .before .before .before .before .before .before .before .before .before .before .before .before .before .before .before .before .before .before .before .before .before .before .before .before .before .before .before .before .before .before .before .before .before .before .before .before .before .before .before .before .before .before .before .before .before .before .before .before .before .before .before .before .before .before .before .before .pre .within; held = c .before .before .before .before .before .before .before .before .before .before .before .before .before .before .before .before .before .before .before .block-exponents .ensures .held; right = c .before .before .before .before .before .before .before .before .before .before .before .before .before .before .before .before .before .before .before .block-exponents .ensures .right }
+block-mantissas-requires c κs = record { within = c .before .before .before .before .before .before .before .before .before .before .before .before .before .before .before .before .before .before .before .before .before .before .before .before .before .before .before .before .before .before .before .before .before .before .before .before .before .before .before .before .before .before .before .before .before .before .before .before .before .before .before .before .before .before .before .before .before .before .before .before .before .before .before .before .before .before .before .before .before .before .before .before .before .before .pre .within; held = c .before .before .before .before .before .before .before .before .before .before .before .before .before .before .before .before .before .before .before .block-exponents .ensures .held; right = c .before .before .before .before .before .before .before .before .before .before .before .before .before .before .before .before .before .before .before .block-exponents .ensures .right }
 
 same-length : tie.Need-same-length
 same-length c = c .before .before .before .before .before .before .before .before .before .before .block-mantissas .kept .1 .0 ∙ c .before .before .before .before .before .before .before .before .before .before .before .before .before .before .before .before .before .before .before .before .before .before .before .before .before .before .before .before .before .before .block-exponents .kept .1 .0 ∙ c .before .before .before .before .before .before .before .before .before .before .before .before .before .before .before .before .before .before .before .before .before .before .before .before .before .before .before .before .before .before .before .before .before .before .before .before .before .before .before .before .before .before .before .before .before .before .before .before .before .before .block-coupling .kept .1 .0 ∙ c .before .before .before .before .before .before .before .before .before .before .before .before .before .before .before .before .before .before .before .before .before .before .before .before .before .before .before .before .before .before .before .before .before .before .before .before .before .before .before .before .before .before .before .before .before .before .before .before .before .before .before .before .before .before .before .before .before .before .before .before .before .before .before .before .before .before .before .before .before .before .block-dynamics .kept .1 .0

@@ -1,24 +1,17 @@
-use Rattle.page.proofs.Pages.{reads-more, reads-is, calms-reads, reads-runs, runs-more, runs-is, stands-first, stands-rest, stands-next, stands-guarded}
+use Rattle.page.proofs.Pages.{reads-runs, runs-more, runs-is}
 use mathlib.Core.Path.{refl, _∙_}
-use native.Mathlib.Omega.{arith}
-use Rattle.walk.specs.Syntax.{_⧺_, size}
-use Rattle.annex.specs.Audblk.{audblk-exponents, bandwidth, exponents, parameters, bai-defaults, fgain-default, fgain-defaults, convsnr}
-use borrow.Author.Needs.{needs}
+use Rattle.annex.specs.Audblk.{audblk-exponents}
 use Rattle.audblk.proofs.block_exponents.Statement.{statement}
 use Rattle.audblk.proofs.block_exponents.Tie as tie
-use Rattle.audblk.proofs.block_exponents.Lts as lts
 
 bandwidth-requires : tie.Need-bandwidth-requires
-unfolding audblk-exponents bandwidth exponents parameters bai-defaults fgain-default fgain-defaults convsnr size
-bandwidth-requires c κs = record { stands = stands-first _ _ _ _ _ (c .before .before .before .before .before .before .before .before .before .before .before .before .before .before .pre .stands); table = c .before .before .before .before .before .before .before .before .before .before .before .before .before .before .pre .table; within = c .before .before .before .before .before .before .before .before .before .before .before .before .before .before .pre .within; held = c .before .before .before .before .before .before .before .before .before .before .before .before .before .before .pre .held; right = c .before .before .before .before .before .before .before .before .before .before .before .before .before .before .pre .right }
+bandwidth-requires c κs = c .before .before .before .before .before .before .before .before .before .before .before .before .pre .within
 
 exponents-requires : tie.Need-exponents-requires
-unfolding audblk-exponents bandwidth exponents parameters bai-defaults fgain-default fgain-defaults convsnr size
-exponents-requires c κs = record { stands = stands-first _ _ _ _ _ (stands-rest _ _ _ _ _ (c .before .before .before .before .before .before .before .before .before .before .before .before .before .before .before .before .before .before .before .before .before .before .before .before .before .before .before .before .before .before .before .before .before .before .pre .stands)); table = c .before .before .before .before .before .before .before .before .before .before .before .before .before .before .before .before .before .before .before .before .before .before .before .before .before .before .before .before .before .before .before .before .before .before .pre .table; within = c .before .before .before .before .before .before .before .before .before .before .before .before .before .before .before .before .before .before .before .before .before .before .before .before .before .before .before .before .before .before .before .before .before .before .pre .within; held = c .before .before .before .before .before .before .before .before .before .before .before .before .before .before .before .before .before .before .before .bandwidth .ensures .held; right = c .before .before .before .before .before .before .before .before .before .before .before .before .before .before .before .before .before .before .before .bandwidth .ensures .right }
+exponents-requires c κs = record { within = c .before .before .before .before .before .before .before .before .before .before .before .before .before .before .before .before .before .before .before .before .before .before .before .before .before .before .before .before .before .before .before .before .pre .within; held = c .before .before .before .before .before .before .before .before .before .before .before .before .before .before .before .before .before .before .before .before .before .before .before .before .before .before .before .before .before .before .before .before .pre .held; right = c .before .before .before .before .before .before .before .before .before .before .before .before .before .before .before .before .before .before .before .before .before .before .before .before .before .before .before .before .before .before .before .before .pre .right }
 
 parameters-requires : tie.Need-parameters-requires
-unfolding audblk-exponents bandwidth exponents parameters bai-defaults fgain-default fgain-defaults convsnr size
-parameters-requires c κs = record { stands = stands-rest _ _ _ _ _ (stands-rest _ _ _ _ _ (c .before .before .before .before .before .before .before .before .before .before .before .before .before .before .before .before .before .before .before .before .before .before .before .before .before .before .before .before .before .before .before .before .before .before .before .before .before .before .before .before .before .before .before .before .before .before .before .before .before .before .before .before .before .before .pre .stands)); table = c .before .before .before .before .before .before .before .before .before .before .before .before .before .before .before .before .before .before .before .before .before .before .before .before .before .before .before .before .before .before .before .before .before .before .before .before .before .before .before .before .before .before .before .before .before .before .before .before .before .before .before .before .before .before .pre .table; within = c .before .before .before .before .before .before .before .before .before .before .before .before .before .before .before .before .before .before .before .before .before .before .before .before .before .before .before .before .before .before .before .before .before .before .before .before .before .before .before .before .before .before .before .before .before .before .before .before .before .before .before .before .before .before .pre .within; held = c .before .before .before .before .before .before .before .before .before .before .before .before .before .before .before .before .before .before .before .exponents .ensures .held; right = c .before .before .before .before .before .before .before .before .before .before .before .before .before .before .before .before .before .before .before .exponents .ensures .right }
+parameters-requires c κs = record { within = c .before .before .before .before .before .before .before .before .before .before .before .before .before .before .before .before .before .before .before .before .before .before .before .before .before .before .before .before .before .before .before .before .before .before .before .before .before .before .before .before .before .before .before .before .before .before .before .before .before .before .before .before .pre .within; held = c .before .before .before .before .before .before .before .before .before .before .before .before .before .before .before .before .before .before .before .exponents .ensures .held; right = c .before .before .before .before .before .before .before .before .before .before .before .before .before .before .before .before .before .before .before .exponents .ensures .right }
 
 same-length : tie.Need-same-length
 same-length c = c .before .before .before .before .before .before .before .before .before .before .parameters .kept .1 .0 ∙ c .before .before .before .before .before .before .before .before .before .before .before .before .before .before .before .before .before .before .before .before .before .before .before .before .before .before .before .before .before .before .exponents .kept .1 .0 ∙ c .before .before .before .before .before .before .before .before .before .before .before .before .before .before .before .before .before .before .before .before .before .before .before .before .before .before .before .before .before .before .before .before .before .before .before .before .before .before .before .before .before .before .before .before .before .before .before .before .before .before .bandwidth .kept .1 .0
@@ -40,7 +33,7 @@ same-length-6 c = c .before .before .before .before .before .before .before .bef
 
 returns : tie.Need-returns
 unfolding audblk-exponents
-returns c = runs-is _ _ (runs-more _ _ (c .before .before .before .before .before .before .before .before .before .before .before .before .before .before .before .before .before .before .before .before .before .before .before .before .before .before .before .before .before .before .before .before .before .before .before .before .before .before .before .before .before .before .before .before .before .before .before .before .before .before .bandwidth .ensures) (runs-more _ _ (c .before .before .before .before .before .before .before .before .before .before .before .before .before .before .before .before .before .before .before .before .before .before .before .before .before .before .before .before .before .before .exponents .ensures) (c .before .before .before .before .before .before .before .before .before .before .parameters .ensures))) refl
+returns c = runs-is _ _ (runs-more _ _ (reads-runs _ _ (c .before .before .before .before .before .before .before .before .before .before .before .before .before .before .before .before .before .before .before .before .before .before .before .before .before .before .before .before .before .before .before .before .before .before .before .before .before .before .before .before .before .before .before .before .before .before .before .before .before .before .before .before .before .before .before .before .before .before .before .before .before .before .before .pre .held) (c .before .before .before .before .before .before .before .before .before .before .before .before .before .before .before .before .before .before .before .before .before .before .before .before .before .before .before .before .before .before .before .before .before .before .before .before .before .before .before .before .before .before .before .before .before .before .before .before .before .before .before .before .before .before .before .before .before .before .before .before .before .before .before .pre .right) (c .before .before .before .before .before .before .before .before .before .before .before .before .before .before .before .before .before .before .before .before .before .before .before .before .before .before .before .before .before .before .before .before .before .before .before .before .before .before .before .before .before .before .before .before .before .before .before .before .before .before .bandwidth .ensures)) (runs-more _ _ (c .before .before .before .before .before .before .before .before .before .before .before .before .before .before .before .before .before .before .before .before .before .before .before .before .before .before .before .before .before .before .exponents .ensures) (c .before .before .before .before .before .before .before .before .before .before .parameters .ensures))) refl
 
 pub block-exponents-spec : {M : Type 1} → statement M
 block-exponents-spec =

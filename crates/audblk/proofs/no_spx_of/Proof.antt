@@ -5,7 +5,6 @@ use native.Mathlib.Omega.{arith}
 use borrow.Author.Needs.{needs}
 use Rattle.audblk.proofs.no_spx_of.Statement.{statement}
 use Rattle.audblk.proofs.no_spx_of.Tie as tie
-use Rattle.audblk.proofs.no_spx_of.Lts as lts
 
 cast-t4 : tie.Need-cast-t4
 cast-t4 c = search needs

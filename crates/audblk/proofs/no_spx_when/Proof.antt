@@ -1,8 +1,7 @@
-use Rattle.audblk.proofs.Laws.{calms-on, calms-off}
+use Rattle.page.proofs.Turns.{calms-on, calms-off}
 use borrow.Author.Needs.{needs}
 use Rattle.audblk.proofs.no_spx_when.Statement.{statement}
 use Rattle.audblk.proofs.no_spx_when.Tie as tie
-use Rattle.audblk.proofs.no_spx_when.Lts as lts
 
 is-requires : tie.Need-is-requires
 is-requires c κs = search needs
@@ -11,7 +10,7 @@ no-spx-requires : tie.Need-no-spx-requires
 no-spx-requires c κs = search needs
 
 returns : tie.Need-returns
-returns c = calms-on _ _ _ _ _ (c .before .before .before .is .ensures) (c .before .before .if1 .taken) (c .no-spx .ensures)
+returns c = calms-on _ _ _ _ (c .before .before .before .is .ensures) (c .before .before .if1 .taken) _ (c .no-spx .ensures)
 
 returns-2 : tie.Need-returns-2
 returns-2 c = calms-off _ _ _ _ (c .before .is .ensures) (c .if1 .left)

@@ -1,22 +1,16 @@
-use Rattle.page.proofs.Pages.{reads-more, reads-is, calms-reads, reads-runs, runs-more, runs-is, stands-first, stands-rest, stands-next, stands-guarded}
-use mathlib.Core.Path.{refl, _∙_}
-use native.Mathlib.Omega.{arith}
-use Rattle.walk.specs.Syntax.{_⧺_, size}
+use Rattle.page.proofs.Pages.{runs-is}
+use mathlib.Core.Path.{refl}
+use Rattle.walk.specs.Syntax.{_⧺_}
 use Rattle.annex.specs.Audblk.{rematrixing}
 use borrow.Author.Needs.{needs}
 use Rattle.audblk.proofs.rematrixing.Statement.{statement}
 use Rattle.audblk.proofs.rematrixing.Tie as tie
-use Rattle.audblk.proofs.rematrixing.Reads as reads
-use Rattle.audblk.proofs.rematrixing.Lts as lts
-use Rattle.page.proofs.is.Reads as is-reads
-use Rattle.page.proofs.rows_when.Reads as rows-when-reads
 
 is-requires : tie.Need-is-requires
 is-requires c κs = search needs
 
-rows-when-requires : tie.Need-rows-when-requires
-unfolding rematrixing size
-rows-when-requires c κs = record { what = _; page = record { stands = stands-guarded _ _ _ _ _ _ (c .before .before .before .before .before .before .before .before .before .before .before .before .before .before .before .before .pre .stands); table = c .before .before .before .before .before .before .before .before .before .before .before .before .before .before .before .before .pre .table; within = c .before .before .before .before .before .before .before .before .before .before .before .before .before .before .before .before .pre .within; held = c .before .before .before .before .before .before .before .before .before .before .before .before .before .before .before .before .pre .held; right = c .before .before .before .before .before .before .before .before .before .before .before .before .before .before .before .before .pre .right } }
+rematrixing-bands-requires : tie.Need-rematrixing-bands-requires
+rematrixing-bands-requires c κs = record { within = c .before .before .before .before .before .before .before .before .before .before .before .before .before .before .before .before .pre .within; held = c .before .before .before .before .before .before .before .before .before .before .before .before .before .before .before .before .pre .held; right = c .before .before .before .before .before .before .before .before .before .before .before .before .before .before .before .before .pre .right }
 
 same-length : tie.Need-same-length
 same-length c = search needs
@@ -37,15 +31,15 @@ same-length-6 : tie.Need-same-length-6
 same-length-6 c = search needs
 
 returns : tie.Need-returns
-unfolding rematrixing _⧺_ size
-returns c = runs-is _ _ (c .before .before .before .before .before .before .before .before .before .before .rows-when .ensures .is _ (stands-guarded _ _ _ _ _ _ (c .before .before .before .before .before .before .before .before .before .before .before .before .before .before .before .before .before .before .before .before .before .before .before .before .before .before .before .pre .stands)) _ (c .before .before .before .before .before .before .before .before .before .before .before .before .before .before .before .before .before .before .before .before .is .ensures)) refl
+unfolding rematrixing _⧺_
+returns c = runs-is _ _ (c .before .before .before .before .before .before .before .before .before .before .rematrixing-bands .ensures .is _ (c .before .before .before .before .before .before .before .before .before .before .before .before .before .before .before .before .before .before .before .before .is .ensures)) refl
 
 pub rematrixing-spec : {M : Type 1} → statement M
 rematrixing-spec =
     tie.close
     (tie.spec
     is-requires
-    rows-when-requires
+    rematrixing-bands-requires
     same-length
     same-length-2
     same-length-3

@@ -1,8 +1,7 @@
-use Rattle.audblk.proofs.Laws.{runs-on, runs-off}
+use Rattle.page.proofs.Turns.{runs-on, runs-off}
 use borrow.Author.Needs.{needs}
 use Rattle.audblk.proofs.spx_when.Statement.{statement}
 use Rattle.audblk.proofs.spx_when.Tie as tie
-use Rattle.audblk.proofs.spx_when.Lts as lts
 
 is-requires : tie.Need-is-requires
 is-requires c κs = search needs

@@ -1,15 +1,12 @@
 use Prim.Native.Nat.{_+_, _*_}
-use mathlib.Core.Path.{ap, ap₂, _∙_, refl}
+use mathlib.Core.Path.{ap, ap₂}
 use native.Mathlib.Omega.{arith}
-use Rattle.walk.specs.Syntax.{by, at, at2, no}
-use Rattle.audfrm.proofs.Turns.{place-at}
-use Rattle.annex.specs.Cells.{BLK, CH, CHEXPSTR, CPLEXPSTR, LFEEXPSTR}
+use Rattle.walk.specs.Syntax.{by, at2}
+use Rattle.annex.specs.Cells.{BLK, CH, CHEXPSTR}
 use Rattle.annex.specs.Audfrm.{chexpstr-by}
 use borrow.Author.Needs.{needs}
 use Rattle.audfrm.proofs.chexpstr.Statement.{statement}
 use Rattle.audfrm.proofs.chexpstr.Tie as tie
-use Rattle.audfrm.proofs.chexpstr.Reads as reads
-use Rattle.audfrm.proofs.chexpstr.Lts as lts
 
 cell-of-requires : tie.Need-cell-of-requires
 cell-of-requires c κs = search needs

@@ -6,8 +6,6 @@ use Rattle.annex.specs.Audfrm.{conv-strategies}
 use borrow.Author.Needs.{needs}
 use Rattle.audfrm.proofs.conv.Statement.{statement}
 use Rattle.audfrm.proofs.conv.Tie as tie
-use Rattle.audfrm.proofs.conv.Reads as reads
-use Rattle.audfrm.proofs.conv.Lts as lts
 
 is-not-requires : tie.Need-is-not-requires
 is-not-requires c κs = search needs

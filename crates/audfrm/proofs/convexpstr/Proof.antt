@@ -1,16 +1,13 @@
-use Prim.Native.Nat.{_+_, _*_}
-use mathlib.Core.Path.{ap, ap₂, _∙_, refl}
+use Prim.Native.Nat.{_+_}
+use mathlib.Core.Path.{ap}
 use native.Mathlib.Omega.{arith}
-use Rattle.walk.specs.Syntax.{by, at, at2, no}
-use Rattle.audfrm.proofs.Turns.{place-at}
-use Rattle.annex.specs.Cells.{BLK, CH, CHEXPSTR, CPLEXPSTR, LFEEXPSTR}
+use Rattle.walk.specs.Syntax.{by, no}
+use Rattle.annex.specs.Cells.{CH}
 use Rattle.page.proofs.Pages.{place-cell}
 use Rattle.annex.specs.Audfrm.{convexpstr-by}
 use borrow.Author.Needs.{needs}
 use Rattle.audfrm.proofs.convexpstr.Statement.{statement}
 use Rattle.audfrm.proofs.convexpstr.Tie as tie
-use Rattle.audfrm.proofs.convexpstr.Reads as reads
-use Rattle.audfrm.proofs.convexpstr.Lts as lts
 
 cell-of-requires : tie.Need-cell-of-requires
 cell-of-requires c κs = search needs

@@ -1,12 +1,14 @@
-use Rattle.audfrm.proofs.Turns.{calms-on, calms-off}
+use Rattle.page.proofs.Turns.{calms-on, calms-off}
 use Rattle.annex.specs.Audfrm.{cplblk-counted}
 use borrow.Author.Needs.{needs}
 use Rattle.audfrm.proofs.counted.Statement.{statement}
 use Rattle.audfrm.proofs.counted.Tie as tie
-use Rattle.audfrm.proofs.counted.Reads as reads
-use Rattle.audfrm.proofs.counted.Lts as lts
-use Rattle.audfrm.proofs.is_at.Reads as is-at-reads
-use Rattle.page.proofs.set_by.Reads as set-by-reads
+
+cast-t4 : tie.Need-cast-t4
+cast-t4 c = search needs
+
+cast-t5 : tie.Need-cast-t5
+cast-t5 c = search needs
 
 is-at-requires : tie.Need-is-at-requires
 is-at-requires c κs = search needs
@@ -23,4 +25,5 @@ unfolding cplblk-counted
 returns-2 c = calms-off _ _ _ _ (c .before .is-at .ensures) (c .if1 .left)
 
 pub counted-spec : {M : Type 1} → statement M
-counted-spec = tie.close (tie.spec is-at-requires set-by-requires returns returns-2)
+counted-spec =
+    tie.close (tie.spec cast-t4 cast-t5 is-at-requires set-by-requires returns returns-2)

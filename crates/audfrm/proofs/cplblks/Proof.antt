@@ -1,20 +1,15 @@
-use Rattle.audfrm.proofs.Turns.{CalmTurns, calm-start, calm-on, calm-end}
+use Rattle.page.proofs.Turns.{CalmTurns, calm-start, calm-on, calm-end}
 use Prim.Native.Nat.{_-_}
-use mathlib.Core.Path.{refl, _∙_}
+use mathlib.Core.Path.{_∙_}
 use native.Mathlib.Omega.{arith}
 use Rattle.page.proofs.Pages.{held-cell}
 use Rattle.annex.specs.Audfrm.{cplblk-counted}
 use Rattle.walk.specs.Syntax.{from, cell}
 use Rattle.walk.specs.declared.table.Count.the-variants.{Held}
-use Rattle.audfrm.proofs.Turns.{from-0}
+use Rattle.page.proofs.Turns.{from-0}
 use borrow.Author.Needs.{needs}
 use Rattle.audfrm.proofs.cplblks.Statement.{statement}
 use Rattle.audfrm.proofs.cplblks.Tie as tie
-use Rattle.audfrm.proofs.cplblks.Reads as reads
-use Rattle.audfrm.proofs.cplblks.Lts as lts
-use Rattle.audfrm.proofs.counted.Reads as counted-reads
-use Rattle.walk.proofs.cells.cell_of.Reads as cell-of-reads
-use Rattle.walk.proofs.cells.put.Reads as put-reads
 
 abbrev Inv-loop : tie.InvT-loop
 Inv-loop cells₀ count j₀ cells j = CalmTurns 0 count 2 cplblk-counted cells₀ cells j

@@ -1,16 +1,20 @@
 use Rattle.page.proofs.Pages.{reads-on, reads-off}
-use Prim.Native.Nat.{_+_, _*_}
-use mathlib.Core.Path.{ap, ap₂, _∙_, refl}
+use Prim.Native.Nat.{_+_}
+use mathlib.Core.Path.{ap, _∙_}
 use native.Mathlib.Omega.{arith}
-use Rattle.walk.specs.Syntax.{by, at, at2, no}
-use Rattle.audfrm.proofs.Turns.{place-at}
-use Rattle.annex.specs.Cells.{BLK, CH, CHEXPSTR, CPLEXPSTR, LFEEXPSTR}
+use Rattle.walk.specs.Syntax.{by, at}
+use Rattle.page.proofs.Turns.{place-at}
+use Rattle.annex.specs.Cells.{BLK, CPLEXPSTR}
 use Rattle.annex.specs.Audfrm.{cplexpstr-by}
 use borrow.Author.Needs.{needs}
 use Rattle.audfrm.proofs.cplexpstr.Statement.{statement}
 use Rattle.audfrm.proofs.cplexpstr.Tie as tie
-use Rattle.audfrm.proofs.cplexpstr.Reads as reads
-use Rattle.audfrm.proofs.cplexpstr.Lts as lts
+
+cast-t16 : tie.Need-cast-t16
+cast-t16 c = search needs
+
+cast-t17 : tie.Need-cast-t17
+cast-t17 c = search needs
 
 is-at-requires : tie.Need-is-at-requires
 is-at-requires c κs = search needs
@@ -63,6 +67,8 @@ pub cplexpstr-spec : {M : Type 1} → statement M
 cplexpstr-spec =
     tie.close
     (tie.spec
+    cast-t16
+    cast-t17
     is-at-requires
     cell-of-requires
     cast-index

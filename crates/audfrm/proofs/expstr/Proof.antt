@@ -1,13 +1,8 @@
-use Rattle.page.proofs.Pages.{reads-more, reads-is, calms-reads}
-use mathlib.Core.Path.{refl, _∙_}
-use native.Mathlib.Omega.{arith}
-use Rattle.walk.specs.Syntax.{_⧺_}
-use Rattle.annex.specs.Audfrm.{cplexpstr-by, expstr-by}
-use borrow.Author.Needs.{needs}
+use Rattle.page.proofs.Pages.{reads-more}
+use mathlib.Core.Path.{_∙_}
+use Rattle.annex.specs.Audfrm.{expstr-by}
 use Rattle.audfrm.proofs.expstr.Statement.{statement}
 use Rattle.audfrm.proofs.expstr.Tie as tie
-use Rattle.audfrm.proofs.expstr.Reads as reads
-use Rattle.audfrm.proofs.expstr.Lts as lts
 
 cplexpstr-requires : tie.Need-cplexpstr-requires
 cplexpstr-requires c κs = c .before .before .before .before .before .before .before .before .before .before .before .before .pre

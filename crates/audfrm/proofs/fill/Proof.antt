@@ -1,18 +1,14 @@
-use Rattle.audfrm.proofs.Turns.{CalmTurns, calm-start, calm-on, calm-end}
+use Rattle.page.proofs.Turns.{CalmTurns, calm-start, calm-on, calm-end}
 use Prim.Native.Nat.{_-_}
-use mathlib.Core.Path.{refl, _∙_}
+use mathlib.Core.Path.{refl}
 use native.Mathlib.Omega.{arith}
 use Rattle.annex.specs.Audfrm.{fsnroffst-by}
 use Rattle.walk.specs.Syntax.{from}
 use Rattle.walk.specs.declared.table.Count.the-variants.{Fixed}
-use Rattle.audfrm.proofs.Turns.{from-0}
+use Rattle.page.proofs.Turns.{from-0}
 use borrow.Author.Needs.{needs}
 use Rattle.audfrm.proofs.fill.Statement.{statement}
 use Rattle.audfrm.proofs.fill.Tie as tie
-use Rattle.audfrm.proofs.fill.Reads as reads
-use Rattle.audfrm.proofs.fill.Lts as lts
-use Rattle.audfrm.proofs.fine.Reads as fine-reads
-use Rattle.walk.proofs.cells.put.Reads as put-reads
 
 abbrev Inv-loop : tie.InvT-loop
 Inv-loop cells₀ j₀ cells j = CalmTurns 0 7 6 fsnroffst-by cells₀ cells j

@@ -1,14 +1,10 @@
-use Rattle.audfrm.proofs.Turns.{copy-calms}
+use Rattle.page.proofs.Turns.{copy-calms}
 use Prim.Native.Nat.{_+_}
 use mathlib.Core.Path.{ap}
 use Rattle.annex.specs.Audfrm.{fsnroffst-by}
 use borrow.Author.Needs.{needs}
 use Rattle.audfrm.proofs.fine.Statement.{statement}
 use Rattle.audfrm.proofs.fine.Tie as tie
-use Rattle.audfrm.proofs.fine.Reads as reads
-use Rattle.audfrm.proofs.fine.Lts as lts
-use Rattle.walk.proofs.cells.cell_of.Reads as cell-of-reads
-use Rattle.walk.proofs.cells.put.Reads as put-reads
 
 cell-of-requires : tie.Need-cell-of-requires
 cell-of-requires c κs = search needs

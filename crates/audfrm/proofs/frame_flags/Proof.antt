@@ -1,13 +1,8 @@
-use Rattle.page.proofs.Pages.{reads-more, reads-is, calms-reads}
-use mathlib.Core.Path.{refl, _∙_}
-use native.Mathlib.Omega.{arith}
-use Rattle.walk.specs.Syntax.{_⧺_}
-use Rattle.annex.specs.Audfrm.{block-flags, field-flags, frame-flags}
-use borrow.Author.Needs.{needs}
+use Rattle.page.proofs.Pages.{reads-more}
+use mathlib.Core.Path.{_∙_}
+use Rattle.annex.specs.Audfrm.{frame-flags}
 use Rattle.audfrm.proofs.frame_flags.Statement.{statement}
 use Rattle.audfrm.proofs.frame_flags.Tie as tie
-use Rattle.audfrm.proofs.frame_flags.Reads as reads
-use Rattle.audfrm.proofs.frame_flags.Lts as lts
 
 block-flags-requires : tie.Need-block-flags-requires
 block-flags-requires c κs = c .before .before .before .before .before .before .before .before .before .before .before .before .pre

@@ -4,9 +4,6 @@ use Rattle.annex.specs.Audfrm.{expstre-known}
 use borrow.Author.Needs.{needs}
 use Rattle.audfrm.proofs.known.Statement.{statement}
 use Rattle.audfrm.proofs.known.Tie as tie
-use Rattle.audfrm.proofs.known.Reads as reads
-use Rattle.audfrm.proofs.known.Lts as lts
-use Rattle.page.proofs.set.Reads as set-reads
 
 set-requires : tie.Need-set-requires
 set-requires c κs = search needs

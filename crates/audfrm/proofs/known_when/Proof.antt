@@ -1,11 +1,7 @@
-use Rattle.audfrm.proofs.Turns.{calms-on, calms-off}
+use Rattle.page.proofs.Turns.{calms-on, calms-off}
 use borrow.Author.Needs.{needs}
 use Rattle.audfrm.proofs.known_when.Statement.{statement}
 use Rattle.audfrm.proofs.known_when.Tie as tie
-use Rattle.audfrm.proofs.known_when.Reads as reads
-use Rattle.audfrm.proofs.known_when.Lts as lts
-use Rattle.audfrm.proofs.known.Reads as known-reads
-use Rattle.page.proofs.is_not.Reads as is-not-reads
 
 is-not-requires : tie.Need-is-not-requires
 is-not-requires c κs = search needs

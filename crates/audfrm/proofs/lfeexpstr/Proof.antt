@@ -1,15 +1,13 @@
-use Prim.Native.Nat.{_+_, _*_}
-use mathlib.Core.Path.{ap, ap₂, _∙_, refl}
+use Prim.Native.Nat.{_+_}
+use mathlib.Core.Path.{ap, _∙_}
 use native.Mathlib.Omega.{arith}
-use Rattle.walk.specs.Syntax.{by, at, at2, no}
-use Rattle.audfrm.proofs.Turns.{place-at}
-use Rattle.annex.specs.Cells.{BLK, CH, CHEXPSTR, CPLEXPSTR, LFEEXPSTR}
+use Rattle.walk.specs.Syntax.{by, at}
+use Rattle.page.proofs.Turns.{place-at}
+use Rattle.annex.specs.Cells.{BLK, LFEEXPSTR}
 use Rattle.annex.specs.Audfrm.{lfeexpstr-by}
 use borrow.Author.Needs.{needs}
 use Rattle.audfrm.proofs.lfeexpstr.Statement.{statement}
 use Rattle.audfrm.proofs.lfeexpstr.Tie as tie
-use Rattle.audfrm.proofs.lfeexpstr.Reads as reads
-use Rattle.audfrm.proofs.lfeexpstr.Lts as lts
 
 cell-of-requires : tie.Need-cell-of-requires
 cell-of-requires c κs = search needs

@@ -4,10 +4,6 @@ use Rattle.annex.specs.Audfrm.{ncplblks-by}
 use borrow.Author.Needs.{needs}
 use Rattle.audfrm.proofs.ncplblks.Statement.{statement}
 use Rattle.audfrm.proofs.ncplblks.Tie as tie
-use Rattle.audfrm.proofs.ncplblks.Reads as reads
-use Rattle.audfrm.proofs.ncplblks.Lts as lts
-use Rattle.audfrm.proofs.cplblks.Reads as cplblks-reads
-use Rattle.page.proofs.set.Reads as set-reads
 
 set-requires : tie.Need-set-requires
 set-requires c κs = search needs

@@ -1,4 +1,4 @@
-use Rattle.page.proofs.Pages.{reads-more, reads-is, calms-reads}
+use Rattle.page.proofs.Pages.{reads-more, reads-is}
 use mathlib.Core.Path.{refl, _∙_}
 use native.Mathlib.Omega.{arith}
 use Rattle.walk.specs.Syntax.{_⧺_}
@@ -6,9 +6,6 @@ use Rattle.annex.specs.Audfrm.{expstre-sent}
 use borrow.Author.Needs.{needs}
 use Rattle.audfrm.proofs.sent.Statement.{statement}
 use Rattle.audfrm.proofs.sent.Tie as tie
-use Rattle.audfrm.proofs.sent.Reads as reads
-use Rattle.audfrm.proofs.sent.Lts as lts
-use Rattle.page.proofs.plain.Reads as plain-reads
 
 plain-requires : tie.Need-plain-requires
 plain-requires c κs = search needs

@@ -2,10 +2,6 @@ use Rattle.page.proofs.Pages.{reads-on, reads-off}
 use borrow.Author.Needs.{needs}
 use Rattle.audfrm.proofs.sent_when.Statement.{statement}
 use Rattle.audfrm.proofs.sent_when.Tie as tie
-use Rattle.audfrm.proofs.sent_when.Reads as reads
-use Rattle.audfrm.proofs.sent_when.Lts as lts
-use Rattle.audfrm.proofs.sent.Reads as sent-reads
-use Rattle.page.proofs.is.Reads as is-reads
 
 is-requires : tie.Need-is-requires
 is-requires c κs = search needs

@@ -6,10 +6,6 @@ use Rattle.annex.specs.Audfrm.{snroffsts}
 use borrow.Author.Needs.{needs}
 use Rattle.audfrm.proofs.snr_offsets.Statement.{statement}
 use Rattle.audfrm.proofs.snr_offsets.Tie as tie
-use Rattle.audfrm.proofs.snr_offsets.Reads as reads
-use Rattle.audfrm.proofs.snr_offsets.Lts as lts
-use Rattle.audfrm.proofs.fill.Reads as fill-reads
-use Rattle.page.proofs.plain.Reads as plain-reads
 
 plain-requires : tie.Need-plain-requires
 plain-requires c κs = (omega arith, c .before .before .before .before .before .before .before .before .before .before .before .before .pre)

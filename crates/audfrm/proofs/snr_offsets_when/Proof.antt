@@ -2,10 +2,6 @@ use Rattle.page.proofs.Pages.{reads-on, reads-off}
 use borrow.Author.Needs.{needs}
 use Rattle.audfrm.proofs.snr_offsets_when.Statement.{statement}
 use Rattle.audfrm.proofs.snr_offsets_when.Tie as tie
-use Rattle.audfrm.proofs.snr_offsets_when.Reads as reads
-use Rattle.audfrm.proofs.snr_offsets_when.Lts as lts
-use Rattle.audfrm.proofs.snr_offsets.Reads as snr-offsets-reads
-use Rattle.page.proofs.is.Reads as is-reads
 
 is-requires : tie.Need-is-requires
 is-requires c κs = search needs

@@ -1,18 +1,10 @@
 use Rattle.page.proofs.Pages.{reads-more, reads-is, calms-reads}
 use mathlib.Core.Path.{refl, _∙_}
-use native.Mathlib.Omega.{arith}
 use Rattle.walk.specs.Syntax.{_⧺_}
 use Rattle.annex.specs.Audfrm.{strategy-flags}
 use borrow.Author.Needs.{needs}
 use Rattle.audfrm.proofs.strategy_flags.Statement.{statement}
 use Rattle.audfrm.proofs.strategy_flags.Tie as tie
-use Rattle.audfrm.proofs.strategy_flags.Reads as reads
-use Rattle.audfrm.proofs.strategy_flags.Lts as lts
-use Rattle.audfrm.proofs.known_when.Reads as known-when-reads
-use Rattle.audfrm.proofs.sent_when.Reads as sent-when-reads
-use Rattle.page.proofs.is.Reads as is-reads
-use Rattle.page.proofs.plain.Reads as plain-reads
-use Rattle.page.proofs.reject.Reads as reject-reads
 
 sent-when-requires : tie.Need-sent-when-requires
 sent-when-requires c κs = search needs

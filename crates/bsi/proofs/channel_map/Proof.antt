@@ -1,16 +1,11 @@
-use Rattle.page.proofs.Pages.{reads-more, reads-is, calms-reads}
-use mathlib.Core.Path.{refl, _∙_}
+use Rattle.page.proofs.Pages.{reads-more, reads-is}
+use mathlib.Core.Path.{refl}
 use native.Mathlib.Omega.{arith}
 use Rattle.walk.specs.Syntax.{_⧺_}
 use Rattle.annex.specs.Bsi.{chanmaps}
 use borrow.Author.Needs.{needs}
 use Rattle.bsi.proofs.channel_map.Statement.{statement}
 use Rattle.bsi.proofs.channel_map.Tie as tie
-use Rattle.bsi.proofs.channel_map.Reads as reads
-use Rattle.bsi.proofs.channel_map.Lts as lts
-use Rattle.page.proofs.is.Reads as is-reads
-use Rattle.page.proofs.plain.Reads as plain-reads
-use Rattle.page.proofs.plain_when.Reads as plain-when-reads
 
 plain-requires : tie.Need-plain-requires
 plain-requires c κs = search needs

@@ -3,10 +3,6 @@ use Rattle.annex.specs.Bsi.{channels}
 use borrow.Author.Needs.{needs}
 use Rattle.bsi.proofs.channels.Statement.{statement}
 use Rattle.bsi.proofs.channels.Tie as tie
-use Rattle.bsi.proofs.channels.Reads as reads
-use Rattle.bsi.proofs.channels.Lts as lts
-use Rattle.bsi.proofs.channel_map.Reads as channel-map-reads
-use Rattle.page.proofs.is.Reads as is-reads
 
 is-requires : tie.Need-is-requires
 is-requires c κs = search needs

@@ -6,14 +6,6 @@ use Rattle.annex.specs.Syncinfo.{syncinfo}
 use borrow.Author.Needs.{needs}
 use Rattle.bsi.proofs.header.Statement.{statement}
 use Rattle.bsi.proofs.header.Tie as tie
-use Rattle.bsi.proofs.header.Reads as reads
-use Rattle.bsi.proofs.header.Lts as lts
-use Rattle.page.proofs.differs.Reads as differs-reads
-use Rattle.page.proofs.is.Reads as is-reads
-use Rattle.page.proofs.plain.Reads as plain-reads
-use Rattle.page.proofs.reject.Reads as reject-reads
-use Rattle.page.proofs.set.Reads as set-reads
-use Rattle.page.proofs.set_by.Reads as set-by-reads
 
 plain-requires : tie.Need-plain-requires
 plain-requires c κs = search needs

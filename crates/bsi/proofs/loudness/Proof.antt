@@ -1,4 +1,4 @@
-use Rattle.page.proofs.Pages.{reads-more, reads-is, calms-reads}
+use Rattle.page.proofs.Pages.{reads-more, reads-is}
 use mathlib.Core.Path.{refl, _∙_}
 use native.Mathlib.Omega.{arith}
 use Rattle.walk.specs.Syntax.{_⧺_}
@@ -6,14 +6,6 @@ use Rattle.annex.specs.Bsi.{loudness}
 use borrow.Author.Needs.{needs}
 use Rattle.bsi.proofs.loudness.Statement.{statement}
 use Rattle.bsi.proofs.loudness.Tie as tie
-use Rattle.bsi.proofs.loudness.Reads as reads
-use Rattle.bsi.proofs.loudness.Lts as lts
-use Rattle.page.proofs.above.Reads as above-reads
-use Rattle.page.proofs.below.Reads as below-reads
-use Rattle.page.proofs.is.Reads as is-reads
-use Rattle.page.proofs.plain.Reads as plain-reads
-use Rattle.page.proofs.plain_when.Reads as plain-when-reads
-use Rattle.page.proofs.reject.Reads as reject-reads
 
 plain-requires : tie.Need-plain-requires
 plain-requires c κs = search needs

@@ -4,12 +4,6 @@ use Rattle.annex.specs.Bsi.{nfchans-by}
 use borrow.Author.Needs.{needs}
 use Rattle.bsi.proofs.nfchans.Statement.{statement}
 use Rattle.bsi.proofs.nfchans.Tie as tie
-use Rattle.bsi.proofs.nfchans.Reads as reads
-use Rattle.bsi.proofs.nfchans.Lts as lts
-use Rattle.page.proofs.above.Reads as above-reads
-use Rattle.page.proofs.is.Reads as is-reads
-use Rattle.page.proofs.set.Reads as set-reads
-use Rattle.page.proofs.set_when.Reads as set-when-reads
 
 set-requires : tie.Need-set-requires
 set-requires c κs = search needs

@@ -4,11 +4,6 @@ use Rattle.annex.specs.Bsi.{numblks-by}
 use borrow.Author.Needs.{needs}
 use Rattle.bsi.proofs.numblks.Statement.{statement}
 use Rattle.bsi.proofs.numblks.Tie as tie
-use Rattle.bsi.proofs.numblks.Reads as reads
-use Rattle.bsi.proofs.numblks.Lts as lts
-use Rattle.page.proofs.is.Reads as is-reads
-use Rattle.page.proofs.set.Reads as set-reads
-use Rattle.page.proofs.set_when.Reads as set-when-reads
 
 set-requires : tie.Need-set-requires
 set-requires c κs = search needs

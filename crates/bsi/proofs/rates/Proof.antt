@@ -2,17 +2,10 @@ use Rattle.page.proofs.Pages.{reads-more, reads-is, calms-reads}
 use mathlib.Core.Path.{refl, _∙_}
 use native.Mathlib.Omega.{arith}
 use Rattle.walk.specs.Syntax.{_⧺_}
-use Rattle.annex.specs.Bsi.{numblks-by, nfchans-by, rates}
+use Rattle.annex.specs.Bsi.{rates}
 use borrow.Author.Needs.{needs}
 use Rattle.bsi.proofs.rates.Statement.{statement}
 use Rattle.bsi.proofs.rates.Tie as tie
-use Rattle.bsi.proofs.rates.Reads as reads
-use Rattle.bsi.proofs.rates.Lts as lts
-use Rattle.bsi.proofs.nfchans.Reads as nfchans-reads
-use Rattle.bsi.proofs.numblks.Reads as numblks-reads
-use Rattle.page.proofs.is.Reads as is-reads
-use Rattle.page.proofs.plain.Reads as plain-reads
-use Rattle.page.proofs.reject.Reads as reject-reads
 
 plain-requires : tie.Need-plain-requires
 plain-requires c κs = search needs

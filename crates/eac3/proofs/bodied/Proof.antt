@@ -5,16 +5,12 @@ use Rattle.page.proofs.Pages.{live-exec}
 use borrow.Author.Needs.{needs}
 use Rattle.eac3.proofs.bodied.Statement.{statement}
 use Rattle.eac3.proofs.bodied.Tie as tie
-use Rattle.eac3.proofs.bodied.Reads as reads
-use Rattle.eac3.proofs.bodied.Lts as lts
-use Rattle.eac3.proofs.body.Reads as body-reads
-use Rattle.eac3.proofs.tailed.Reads as tailed-reads
 
 body-requires : tie.Need-body-requires
-body-requires c κs = record { stands = c .before .before .before .before .before .before .before .before .before .before .before .before .before .before .pre .annexed .bodied; table = c .before .before .before .before .before .before .before .before .before .before .before .before .before .before .pre .annexed .table; within = c .before .before .before .before .before .before .before .before .before .before .before .before .before .before .pre .within; held = c .before .before .before .before .before .before .before .before .before .before .before .before .before .before .pre .held; right = c .before .before .before .before .before .before .before .before .before .before .before .before .before .before .pre .right }
+body-requires c κs = c .before .before .before .before .before .before .before .before .before .before .before .before .before .before .pre .0
 
 tailed-requires : tie.Need-tailed-requires
-tailed-requires c κs = c .before .before .before .before .before .before .before .before .before .before .before .before .before .before .before .before .before .before .before .before .before .before .before .before .before .before .before .before .before .before .before .pre .within
+tailed-requires c κs = c .before .before .before .before .before .before .before .before .before .before .before .before .before .before .before .before .before .before .before .before .before .before .before .before .before .before .before .before .before .before .before .pre .0 .within
 
 same-length : tie.Need-same-length
 same-length c = search needs
@@ -36,7 +32,7 @@ same-length-6 c = search needs
 
 returns : tie.Need-returns
 unfolding bodyOf
-returns c = c .before .before .before .before .before .before .before .before .before .before .tailed .ensures .tells _ ∙ follows _ _ _ _ _ _ (c .before .before .before .before .before .before .before .before .before .before .before .before .before .before .before .before .before .before .before .before .before .before .before .before .before .before .before .body .result) _ _ _ (c .before .before .before .before .before .before .before .before .before .before .before .before .before .before .before .before .before .before .before .before .before .before .before .before .before .before .before .body .ensures .is ∙ live-exec _ _ _ _ _ _ (c .before .before .before .before .before .before .before .before .before .before .before .before .before .before .before .before .before .before .before .before .before .before .before .before .before .before .before .before .before .before .before .before .before .before .before .before .before .before .before .before .before .before .pre .live))
+returns c = c .before .before .before .before .before .before .before .before .before .before .tailed .ensures .tells _ ∙ follows _ _ _ _ _ _ (c .before .before .before .before .before .before .before .before .before .before .before .before .before .before .before .before .before .before .before .before .before .before .before .before .before .before .before .body .result) _ _ _ (c .before .before .before .before .before .before .before .before .before .before .before .before .before .before .before .before .before .before .before .before .before .before .before .before .before .before .before .body .ensures .is ∙ live-exec _ _ _ _ _ _ (c .before .before .before .before .before .before .before .before .before .before .before .before .before .before .before .before .before .before .before .before .before .before .before .before .before .before .before .before .before .before .before .before .before .before .before .before .before .before .before .before .before .before .pre .1))
 
 pub bodied-spec : {M : Type 1} → statement M
 bodied-spec =

@@ -6,12 +6,6 @@ use Rattle.eac3.specs.Frame.{start}
 use borrow.Author.Needs.{needs}
 use Rattle.eac3.proofs.parse.Statement.{statement}
 use Rattle.eac3.proofs.parse.Tie as tie
-use Rattle.eac3.proofs.parse.Reads as reads
-use Rattle.eac3.proofs.parse.Lts as lts
-use Rattle.eac3.proofs.annex.Reads as annex-reads
-use Rattle.eac3.proofs.answer.answer_of.Reads as answer-of-reads
-use Rattle.eac3.proofs.read.Reads as read-reads
-use Rattle.syntax.proofs.halted.Reads as halted-reads
 
 halted-requires : tie.Need-halted-requires
 halted-requires c κs = search needs
@@ -22,12 +16,9 @@ answer-of-requires c κs = search needs
 returns : tie.Need-returns
 returns c = short-answer _ _ (c .before .before .halted .result) _ _ (omega arith) (c .before .before .halted .ensures) (c .answer-of .ensures)
 
-annex-requires : tie.Need-annex-requires
-annex-requires c κs = search needs
-
 read-requires : tie.Need-read-requires
 unfolding start
-read-requires c κs = record { annexed = c .before .before .before .before .before .before .before .before .before .before .annex .ensures; six = omega arith; no-cells = refl; no-bins = refl; right = memo-fresh _ }
+read-requires c κs = record { six = omega arith; no-cells = refl; no-bins = refl; right = memo-fresh _ }
 
 answer-of-requires-2 : tie.Need-answer-of-requires-2
 answer-of-requires-2 c κs = search needs
@@ -51,7 +42,7 @@ same-length-6 : tie.Need-same-length-6
 same-length-6 c = search needs
 
 returns-2 : tie.Need-returns-2
-returns-2 c = whole-answer _ _ (c .before .before .before .before .before .before .before .before .before .before .before .before .read .result) _ _ _ (omega (arith, c .before .before .before .before .before .before .before .before .before .before .before .before .before .before .before .before .before .before .before .before .before .before .before .before .if1 .left)) (c .before .before .before .before .before .before .before .before .before .before .before .before .read .ensures) (c .answer-of2 .ensures)
+returns-2 c = whole-answer _ _ (c .before .before .before .before .before .before .before .before .before .before .before .before .read .result) _ _ _ (omega (arith, c .before .before .before .before .before .before .before .before .before .before .before .before .before .before .before .before .before .before .before .before .before .before .if1 .left)) (c .before .before .before .before .before .before .before .before .before .before .before .before .read .ensures) (c .answer-of2 .ensures)
 
 pub parse-spec : {M : Type 1} → statement M
 parse-spec =
@@ -60,7 +51,6 @@ parse-spec =
     halted-requires
     answer-of-requires
     returns
-    annex-requires
     read-requires
     answer-of-requires-2
     same-length

@@ -9,11 +9,6 @@ use Rattle.page.proofs.Pages.{live-exec}
 use borrow.Author.Needs.{needs}
 use Rattle.eac3.proofs.read.Statement.{statement}
 use Rattle.eac3.proofs.read.Tie as tie
-use Rattle.eac3.proofs.read.Reads as reads
-use Rattle.eac3.proofs.read.Lts as lts
-use Rattle.bsi.proofs.header.Reads as header-reads
-use Rattle.eac3.proofs.sized.Reads as sized-reads
-use Rattle.syntax.proofs.going.Reads as going-reads
 
 going-requires : tie.Need-going-requires
 going-requires c κs = search needs
@@ -23,7 +18,7 @@ header-requires c κs = omega (arith, c .before .before .before .before .before 
 
 sized-requires : tie.Need-sized-requires
 unfolding header
-sized-requires c κs = record { annexed = c .before .before .before .before .before .before .before .before .before .before .before .before .before .before .before .before .before .before .before .before .before .before .before .before .before .before .before .before .before .before .before .before .before .pre .annexed; held = subst Held (sym (c .before .before .before .before .before .before .before .before .before .before .before .before .before .before .before .before .before .before .before .before .before .before .before .before .before .before .before .before .before .before .before .before .before .pre .no-bins)) held-start; right = c .before .before .before .before .before .before .before .before .before .before .before .before .before .before .before .before .before .before .before .before .before .before .before .before .before .before .before .before .before .before .before .before .before .pre .right; small = small-size _ _ (c .before .before .before .before .before .before .before .before .before .before .before .before .before .before .before .before .before .before .before .header .result) (state _ _) _ _ _ (c .before .before .before .before .before .before .before .before .before .before .before .before .before .before .before .before .before .before .before .before .before .before .before .before .before .before .before .before .before .before .before .before .before .pre .no-cells) (c .before .before .before .before .before .before .before .before .before .before .before .before .before .before .before .before .before .before .before .before .before .before .before .before .before .before .before .before .before .before .before .before .before .pre .no-bins) _ (c .before .before .before .before .before .before .before .before .before .before .before .before .before .before .before .before .before .before .before .before .going .ensures) (c .before .before .before .before .before .before .before .before .before .before .before .before .before .before .before .before .before .before .before .header .ensures .is _ ∙ live-exec _ _ _ (c .before .before .before .before .before .before .before .before .before .before .before .before .before .before .before .before .before .before .before .before .going .result) _ _ (ap (λ (g : Cursor). g .stopped) (c .before .before .before .before .before .before .before .before .before .before .before .before .before .before .before .before .before .before .before .before .going .ensures))) }
+sized-requires c κs = record { held = subst Held (sym (c .before .before .before .before .before .before .before .before .before .before .before .before .before .before .before .before .before .before .before .before .before .before .before .before .before .before .before .before .before .before .before .before .before .pre .no-bins)) held-start; right = c .before .before .before .before .before .before .before .before .before .before .before .before .before .before .before .before .before .before .before .before .before .before .before .before .before .before .before .before .before .before .before .before .before .pre .right; small = small-size _ _ (c .before .before .before .before .before .before .before .before .before .before .before .before .before .before .before .before .before .before .before .header .result) (state _ _) _ _ _ (c .before .before .before .before .before .before .before .before .before .before .before .before .before .before .before .before .before .before .before .before .before .before .before .before .before .before .before .before .before .before .before .before .before .pre .no-cells) (c .before .before .before .before .before .before .before .before .before .before .before .before .before .before .before .before .before .before .before .before .before .before .before .before .before .before .before .before .before .before .before .before .before .pre .no-bins) _ (c .before .before .before .before .before .before .before .before .before .before .before .before .before .before .before .before .before .before .before .before .going .ensures) (c .before .before .before .before .before .before .before .before .before .before .before .before .before .before .before .before .before .before .before .header .ensures .is _ ∙ live-exec _ _ _ (c .before .before .before .before .before .before .before .before .before .before .before .before .before .before .before .before .before .before .before .before .going .result) _ _ (ap (λ (g : Cursor). g .stopped) (c .before .before .before .before .before .before .before .before .before .before .before .before .before .before .before .before .before .before .before .before .going .ensures))) }
 
 same-length : tie.Need-same-length
 same-length c = search needs

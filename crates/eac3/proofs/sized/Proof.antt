@@ -3,12 +3,6 @@ use native.Mathlib.Omega.{arith}
 use borrow.Author.Needs.{needs}
 use Rattle.eac3.proofs.sized.Statement.{statement}
 use Rattle.eac3.proofs.sized.Tie as tie
-use Rattle.eac3.proofs.sized.Reads as reads
-use Rattle.eac3.proofs.sized.Lts as lts
-use Rattle.bits.proofs.ByteCount.bits.Reads as bits-reads
-use Rattle.eac3.proofs.bodied.Reads as bodied-reads
-use Rattle.eac3.proofs.bytes_of.Reads as bytes-of-reads
-use Rattle.syntax.proofs.halted.Reads as halted-reads
 
 returns : tie.Need-returns
 returns c = stays (c .before .before .before .before .before .before .args .cur) _ _ _ (c .if1 .taken)
@@ -29,7 +23,7 @@ bits-requires : tie.Need-bits-requires
 bits-requires c κs = search needs
 
 bodied-requires : tie.Need-bodied-requires
-bodied-requires c κs = record { annexed = c .before .before .before .before .before .before .before .before .before .before .before .before .before .before .before .before .before .before .before .before .pre .annexed; within = omega (arith, c .bits .ensures, c .before .before .before .before .before .before .before .before .before .before .if2 .left); held = c .before .before .before .before .before .before .before .before .before .before .before .before .before .before .before .before .before .before .before .before .pre .held; right = c .before .before .before .before .before .before .before .before .before .before .before .before .before .before .before .before .before .before .before .before .pre .right; live = c .before .before .before .before .before .before .before .before .before .before .before .before .before .before .if1 .left }
+bodied-requires c κs = (record { within = omega (arith, c .bits .ensures, c .before .before .before .before .before .before .before .before .before .before .if2 .left); held = c .before .before .before .before .before .before .before .before .before .before .before .before .before .before .before .before .before .before .before .before .pre .held; right = c .before .before .before .before .before .before .before .before .before .before .before .before .before .before .before .before .before .before .before .before .pre .right }, c .before .before .before .before .before .before .before .before .before .before .before .before .before .before .if1 .left)
 
 same-length : tie.Need-same-length
 same-length c = search needs

@@ -3,9 +3,6 @@ use Rattle.reading.specs.Frame.{finish}
 use borrow.Author.Needs.{needs}
 use Rattle.eac3.proofs.tailed.Statement.{statement}
 use Rattle.eac3.proofs.tailed.Tie as tie
-use Rattle.eac3.proofs.tailed.Reads as reads
-use Rattle.eac3.proofs.tailed.Lts as lts
-use Rattle.frame.proofs.read_tail.Reads as read-tail-reads
 
 returns : tie.Need-returns
 returns c = record { tells = λ st. stays (c .before .before .before .before .before .before .args .cur) st _ _ (c .if1 .taken) }

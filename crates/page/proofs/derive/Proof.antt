@@ -2,10 +2,6 @@ use Rattle.page.proofs.Pages.{derive-stopped, derive-on, derive-off}
 use borrow.Author.Needs.{needs}
 use Rattle.page.proofs.derive.Statement.{statement}
 use Rattle.page.proofs.derive.Tie as tie
-use Rattle.page.proofs.derive.Reads as reads
-use Rattle.page.proofs.derive.Lts as lts
-use Rattle.syntax.proofs.halted.Reads as halted-reads
-use Rattle.walk.proofs.acts.act.Reads as act-reads
 
 returns : tie.Need-returns
 returns c = derive-stopped _ _ _ _ (c .if1 .taken) (c .before .pre .0) (c .before .pre .1)

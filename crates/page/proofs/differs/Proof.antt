@@ -5,9 +5,6 @@ use Rattle.page.proofs.Pages.{held-cell}
 use borrow.Author.Needs.{needs}
 use Rattle.page.proofs.differs.Statement.{statement}
 use Rattle.page.proofs.differs.Tie as tie
-use Rattle.page.proofs.differs.Reads as reads
-use Rattle.page.proofs.differs.Lts as lts
-use Rattle.walk.proofs.cells.cell_of.Reads as cell-of-reads
 
 cell-of-requires : tie.Need-cell-of-requires
 cell-of-requires c κs = search needs

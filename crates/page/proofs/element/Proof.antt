@@ -6,11 +6,6 @@ use Rattle.page.proofs.Pages.{element-stopped, element-taken}
 use borrow.Author.Needs.{needs}
 use Rattle.page.proofs.element.Statement.{statement}
 use Rattle.page.proofs.element.Tie as tie
-use Rattle.page.proofs.element.Reads as reads
-use Rattle.page.proofs.element.Lts as lts
-use Rattle.page.proofs.asking.Reads as asking-reads
-use Rattle.walk.proofs.cells.cell_of.Reads as cell-of-reads
-use Rattle.walk.proofs.inputs.take.Reads as take-reads
 
 returns : tie.Need-returns
 returns c = element-stopped _ _ _ _ _ _ _ _ _ (c .if1 .taken)

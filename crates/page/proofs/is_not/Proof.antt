@@ -1,13 +1,10 @@
-use lib.Dec.{eqb, ltb}
+use lib.Dec.{eqb}
 use mathlib.Core.Bool.{not}
 use mathlib.Core.Path.{ap, _∙_}
 use Rattle.page.proofs.Pages.{held-cell}
 use borrow.Author.Needs.{needs}
 use Rattle.page.proofs.is_not.Statement.{statement}
 use Rattle.page.proofs.is_not.Tie as tie
-use Rattle.page.proofs.is_not.Reads as reads
-use Rattle.page.proofs.is_not.Lts as lts
-use Rattle.walk.proofs.cells.cell_of.Reads as cell-of-reads
 
 cell-of-requires : tie.Need-cell-of-requires
 cell-of-requires c κs = search needs

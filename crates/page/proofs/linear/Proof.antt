@@ -3,8 +3,6 @@ use native.Mathlib.Omega.{arith}
 use borrow.Author.Needs.{needs}
 use Rattle.page.proofs.linear.Statement.{statement}
 use Rattle.page.proofs.linear.Tie as tie
-use Rattle.page.proofs.linear.Reads as reads
-use Rattle.page.proofs.linear.Lts as lts
 
 mul-result : tie.Need-mul-result
 mul-result c = let h = product-le _ _ (c .fits .y) (c .fits .v) in omega arith

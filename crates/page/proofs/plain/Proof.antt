@@ -2,9 +2,6 @@ use Rattle.page.proofs.Pages.{plain-reads}
 use borrow.Author.Needs.{needs}
 use Rattle.page.proofs.plain.Statement.{statement}
 use Rattle.page.proofs.plain.Tie as tie
-use Rattle.page.proofs.plain.Reads as reads
-use Rattle.page.proofs.plain.Lts as lts
-use Rattle.page.proofs.element.Reads as element-reads
 
 element-requires : tie.Need-element-requires
 element-requires c κs = search needs

@@ -2,9 +2,6 @@ use Rattle.page.proofs.Pages.{optional-on, optional-off}
 use borrow.Author.Needs.{needs}
 use Rattle.page.proofs.plain_when.Statement.{statement}
 use Rattle.page.proofs.plain_when.Tie as tie
-use Rattle.page.proofs.plain_when.Reads as reads
-use Rattle.page.proofs.plain_when.Lts as lts
-use Rattle.page.proofs.plain.Reads as plain-reads
 
 plain-requires : tie.Need-plain-requires
 plain-requires c κs = search needs

@@ -2,9 +2,6 @@ use Rattle.page.proofs.Pages.{rejects-stopped, rejects-on, rejects-off}
 use borrow.Author.Needs.{needs}
 use Rattle.page.proofs.reject.Statement.{statement}
 use Rattle.page.proofs.reject.Tie as tie
-use Rattle.page.proofs.reject.Reads as reads
-use Rattle.page.proofs.reject.Lts as lts
-use Rattle.syntax.proofs.halted.Reads as halted-reads
 
 returns : tie.Need-returns
 returns c = rejects-stopped _ _ _ (c .if1 .taken)

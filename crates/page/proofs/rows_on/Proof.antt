@@ -2,15 +2,12 @@ use Rattle.page.proofs.Pages.{ranged-stopped, ranged-on}
 use borrow.Author.Needs.{needs}
 use Rattle.page.proofs.rows_on.Statement.{statement}
 use Rattle.page.proofs.rows_on.Tie as tie
-use Rattle.page.proofs.rows_on.Reads as reads
-use Rattle.page.proofs.rows_on.Lts as lts
-use Rattle.walk.proofs.rows.Reads as rows-reads
 
 returns : tie.Need-returns
-returns c = ranged-stopped _ _ _ _ _ _ _ _ _ (c .before .before .before .before .before .before .pre .page .held) (c .before .before .before .before .before .before .pre .page .right) (c .if1 .taken)
+returns c = ranged-stopped _ _ _ _ _ _ _ _ (c .before .before .before .before .before .before .before .pre .ready .held) (c .before .before .before .before .before .before .before .pre .ready .right) (c .if1 .taken)
 
 rows-requires : tie.Need-rows-requires
-rows-requires c κs = record { what = c .before .before .before .before .before .before .before .before .before .before .before .before .before .before .before .pre .what; stands = c .before .before .before .before .before .before .before .before .before .before .before .before .before .before .before .pre .page .stands; table = c .before .before .before .before .before .before .before .before .before .before .before .before .before .before .before .pre .page .table; within = c .before .before .before .before .before .before .before .before .before .before .before .before .before .before .before .pre .page .within; held = c .before .before .before .before .before .before .before .before .before .before .before .before .before .before .before .pre .page .held; right = c .before .before .before .before .before .before .before .before .before .before .before .before .before .before .before .pre .page .right; live = c .before .before .before .before .before .before .before .before .before .if1 .left }
+rows-requires c κs = record { what = c .before .before .before .before .before .before .before .before .before .before .before .before .before .before .before .before .pre .what; stands = c .before .before .before .before .before .before .before .before .before .before .before .before .before .before .before .before .pre .stands; table = c .before .before .before .before .before .before .before .before .before .before .before .before .before .before .before .before .pre .table; within = c .before .before .before .before .before .before .before .before .before .before .before .before .before .before .before .before .pre .ready .within; held = c .before .before .before .before .before .before .before .before .before .before .before .before .before .before .before .before .pre .ready .held; right = c .before .before .before .before .before .before .before .before .before .before .before .before .before .before .before .before .pre .ready .right; live = c .before .before .before .before .before .before .before .before .before .if1 .left }
 
 same-length : tie.Need-same-length
 same-length c = search needs
@@ -31,7 +28,7 @@ same-length-6 : tie.Need-same-length-6
 same-length-6 c = search needs
 
 returns-2 : tie.Need-returns-2
-returns-2 c = ranged-on _ _ _ _ _ _ _ _ (c .before .before .before .before .before .before .before .before .before .before .before .before .before .before .before .before .before .before .before .before .if1 .left) _ _ _ _ (c .before .before .before .before .before .before .before .before .before .before .rows .ensures)
+returns-2 c = ranged-on _ _ _ _ _ _ _ (c .before .before .before .before .before .before .before .before .before .before .before .before .before .before .before .before .before .before .before .before .if1 .left) _ _ _ _ (c .before .before .before .before .before .before .before .before .before .before .rows .ensures)
 
 pub rows-on-spec : {M : Type 1} → statement M
 rows-on-spec =

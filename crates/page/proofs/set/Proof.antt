@@ -2,9 +2,6 @@ use Rattle.page.proofs.Pages.{put-calms}
 use borrow.Author.Needs.{needs}
 use Rattle.page.proofs.set.Statement.{statement}
 use Rattle.page.proofs.set.Tie as tie
-use Rattle.page.proofs.set.Reads as reads
-use Rattle.page.proofs.set.Lts as lts
-use Rattle.walk.proofs.cells.put.Reads as put-reads
 
 put-requires : tie.Need-put-requires
 put-requires c κs = search needs

@@ -1,13 +1,7 @@
 use Rattle.page.proofs.Pages.{linear-calms}
-use mathlib.Core.Path.{_∙_, ap}
 use borrow.Author.Needs.{needs}
 use Rattle.page.proofs.set_by.Statement.{statement}
 use Rattle.page.proofs.set_by.Tie as tie
-use Rattle.page.proofs.set_by.Reads as reads
-use Rattle.page.proofs.set_by.Lts as lts
-use Rattle.page.proofs.linear.Reads as linear-reads
-use Rattle.walk.proofs.cells.cell_of.Reads as cell-of-reads
-use Rattle.walk.proofs.cells.put.Reads as put-reads
 
 cell-of-requires : tie.Need-cell-of-requires
 cell-of-requires c κs = search needs

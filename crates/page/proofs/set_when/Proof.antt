@@ -3,9 +3,6 @@ use mathlib.Core.Path.{refl}
 use borrow.Author.Needs.{needs}
 use Rattle.page.proofs.set_when.Statement.{statement}
 use Rattle.page.proofs.set_when.Tie as tie
-use Rattle.page.proofs.set_when.Reads as reads
-use Rattle.page.proofs.set_when.Lts as lts
-use Rattle.walk.proofs.cells.put.Reads as put-reads
 
 put-requires : tie.Need-put-requires
 put-requires c κs = search needs

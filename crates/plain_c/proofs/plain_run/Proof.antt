@@ -14,12 +14,15 @@ use Rattle.plain_c.proofs.plain_run.Lts as lts
 use Rattle.syntax.proofs.going.Reads as going-reads
 use Rattle.walk.proofs.rows.Reads as rows-reads
 
+slice-aggregate-rows : tie.Need-slice-aggregate-rows
+slice-aggregate-rows c = search needs
+
 going-requires : tie.Need-going-requires
 going-requires c κs = search needs
 
 rows-requires : tie.Need-rows-requires
 unfolding rowOf condOf valueOf boundOf flat elements allNarrow
-rows-requires c κs = record { what = elements 640; stands = record { rows = refl; ends = refl; room = omega arith }; table = record { sized = refl; narrows = refl }; within = omega (arith, c .before .before .before .before .before .before .before .before .before .before .before .before .before .before .before .before .pre); held = no-exponents; right = memo-fresh _; live = rw (c .going .ensures) refl }
+rows-requires c κs = record { what = elements 640; stands = record { rows = refl; ends = refl; room = omega arith }; table = record { sized = omega arith; narrows = refl }; within = omega (arith, c .before .before .before .before .before .before .before .before .before .before .before .before .before .before .before .before .pre); held = no-exponents; right = memo-fresh _; live = rw (c .going .ensures) refl }
 
 same-length : tie.Need-same-length
 same-length c = search needs
@@ -47,6 +50,7 @@ pub plain-run-spec : {M : Type 1} → statement M
 plain-run-spec =
     tie.close
     (tie.spec
+    slice-aggregate-rows
     going-requires
     rows-requires
     same-length

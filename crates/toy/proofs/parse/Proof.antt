@@ -17,9 +17,12 @@ use Rattle.walk.proofs.rows.Reads as rows-reads
 limit-of-requires : tie.Need-limit-of-requires
 limit-of-requires c κs = search needs
 
+slice-aggregate-rows : tie.Need-slice-aggregate-rows
+slice-aggregate-rows c = search needs
+
 rows-requires : tie.Need-rows-requires
 unfolding rowOf condOf valueOf boundOf flat frame allNarrow
-rows-requires c κs = record { what = frame; stands = record { rows = refl; ends = refl; room = omega arith }; table = record { sized = refl; narrows = refl }; within = c .before .before .before .before .before .before .before .before .before .before .limit-of .ensures .1; held = held-start; right = memo-fresh _; live = refl }
+rows-requires c κs = record { what = frame; stands = record { rows = refl; ends = refl; room = omega arith }; table = record { sized = omega arith; narrows = refl }; within = c .before .before .before .before .before .before .before .before .before .before .limit-of .ensures .1; held = held-start; right = memo-fresh _; live = refl }
 
 same-length : tie.Need-same-length
 same-length c = search needs
@@ -48,6 +51,7 @@ parse-spec =
     tie.close
     (tie.spec
     limit-of-requires
+    slice-aggregate-rows
     rows-requires
     same-length
     same-length-2

@@ -3,7 +3,7 @@ use native.Mathlib.Nat.{le-trans}
 use native.Mathlib.Omega.{arith}
 use Rattle.reading.specs.Room.{room}
 use Rattle.walk.specs.Cells.{state}
-use Rattle.walk.proofs.Walks.{EachInv, RowsInv, ahead-less, each-standing, each-stands, each-within, fewer, on-less, past-less, rows-act, rows-each, rows-end, rows-off, rows-refuse, rows-settled, rows-standing, rows-start, rows-stir-off, rows-stirred, rows-take, rows-walk, settled, settled-edge, small-fits, stand-end, take-fit, turns-end, turns-on, turns-stand, turns-start}
+use Rattle.walk.proofs.Walks.{EachInv, RowsInv, ahead-less, each-standing, each-stands, each-within, fewer, on-less, past-less, rows-act, rows-each, rows-end, rows-off, rows-refuse, rows-settled, rows-standing, rows-start, rows-stir-off, rows-stirred, rows-take, rows-walk, settled, settled-edge, small-fits, stand-end, stand-room, take-fit, turns-end, turns-on, turns-stand, turns-start}
 use Prim.Native.Nat.{ℕ, _<_, _+_, _-_, _*_}
 use borrow.Fn.Kinds.{In}
 use borrow.Fn.PlainCycle.{Measures, is, falls, and}
@@ -61,13 +61,13 @@ abbrev each-μ-loop : each-lts.MeasureT-loop
 each-μ-loop src names₀ blocks₀ indexes₀ firsts₀ widths₀ values₀ table cells₀ bins₀ memo₀ limit from to i n counter c₀ j₀ names blocks indexes firsts widths values cells bins memo c j = n - j
 
 each-loop-holds : (t : ℕ) → each-lts.Need-loop-holds (each-told t) (each-at t) each.Post each-Inv-loop each-μ-loop
-each-loop-holds t c = turns-start _ _ _ _ _ _ _ _ _ _ _ _ (c .before .before .before .before .before .pre .1)
+each-loop-holds t c = turns-start _ _ _ _ _ _ _ _ _ _ _ _ (c .before .before .before .before .before .before .pre .1)
 
 each-put-requires : (t : ℕ) → each-lts.Need-put-requires (each-told t) (each-at t) each.Post each-Inv-loop each-μ-loop
 each-put-requires t c κs = search needs
 
 each-once-requires : (t : ℕ) → each-lts.Need-once-requires (each-told t) (each-at t) each.Post each-Inv-loop each-μ-loop
-each-once-requires t c κs = (omega (arith, c .before .before .before .before .before .before .before .before .before .before .before .before .before .before .before .before .before .before .pre .0), turns-stand _ _ _ _ _ _ _ _ _ _ _ _ _ _ _ _ (c .before .before .before .before .before .before .before .before .before .before .before .before .loop .inv) (c .before .before .before .before .before .before .before .before .before .before .before .loop-test .taken) _ (c .before .before .before .before .before .before .before .before .before .before .before .before .before .before .before .before .before .before .pre .1))
+each-once-requires t c κs = (omega (arith, c .before .before .before .before .before .before .before .before .before .before .before .before .before .before .before .before .before .before .before .pre .0), turns-stand _ _ _ _ _ _ _ _ _ _ _ _ _ _ _ _ (c .before .before .before .before .before .before .before .before .before .before .before .before .loop .inv) (c .before .before .before .before .before .before .before .before .before .before .before .loop-test .taken) _ (c .before .before .before .before .before .before .before .before .before .before .before .before .before .before .before .before .before .before .before .pre .1))
 
 each-turn-requires : (t : ℕ) → each-lts.Need-turn-requires (each-told t) (each-at t) each.Post each-Inv-loop each-μ-loop
 each-turn-requires t c κs = search needs
@@ -107,10 +107,10 @@ abbrev once-μ-loop : once-lts.MeasureT-loop
 once-μ-loop src names₀ blocks₀ indexes₀ firsts₀ widths₀ values₀ table cells₀ bins₀ memo₀ limit from to c₀ pc₀ names blocks indexes firsts widths values cells bins memo c pc = to - pc
 
 once-loop-holds : (t : ℕ) → once-lts.Need-loop-holds (once-told t) (once-at t) once.Post once-Inv-loop once-μ-loop
-once-loop-holds t c = rows-start _ _ _ _ _ _ _ _ _ (c .before .before .before .before .before .pre .1)
+once-loop-holds t c = rows-start _ _ _ _ _ _ _ _ _ (c .before .before .before .before .before .before .pre .1)
 
 once-settle-requires : (t : ℕ) → once-lts.Need-settle-requires (once-told t) (once-at t) once.Post once-Inv-loop once-μ-loop
-once-settle-requires t c κs = rows-standing _ _ _ _ _ _ _ _ _ _ _ _ _ (c .before .before .loop .inv) _ (c .before .before .before .before .before .before .before .before .pre .1)
+once-settle-requires t c κs = rows-standing _ _ _ _ _ _ _ _ _ _ _ _ _ (c .before .before .loop .inv) _ (c .before .before .before .before .before .before .before .before .before .pre .1)
 
 once-enum-known-number : (t : ℕ) → once-lts.Need-enum-known-number (once-told t) (once-at t) once.Post once-Inv-loop once-μ-loop
 once-enum-known-number t c = search needs
@@ -128,13 +128,13 @@ once-enum-known-k : (t : ℕ) → once-lts.Need-enum-known-k (once-told t) (once
 once-enum-known-k t c = search needs
 
 once-mul-word : (t : ℕ) → once-lts.Need-mul-word (once-told t) (once-at t) once.Post once-Inv-loop once-μ-loop
-once-mul-word t c = omega (arith, stand-end (c .before .before .before .before .before .before .before .before .before .before .before .before .before .pre .1), c .if1 .taken)
+once-mul-word t c = omega (arith, stand-end (c .before .before .before .before .before .before .before .before .before .before .before .before .before .before .pre .1), c .if1 .taken)
 
-once-element-copy-out-word : (t : ℕ) → once-lts.Need-element-copy-out-word (once-told t) (once-at t) once.Post once-Inv-loop once-μ-loop
-once-element-copy-out-word t c = omega (arith, stand-end (c .before .before .before .before .before .before .before .before .before .before .before .before .before .pre .1), c .if1 .taken)
+once-shared-slice-read-word : (t : ℕ) → once-lts.Need-shared-slice-read-word (once-told t) (once-at t) once.Post once-Inv-loop once-μ-loop
+once-shared-slice-read-word t c = omega (arith, stand-room (c .before .before .before .before .before .before .before .before .before .before .before .before .before .before .before .pre .1), c .before .if1 .taken)
 
 once-add-pc : (t : ℕ) → once-lts.Need-add-pc (once-told t) (once-at t) once.Post once-Inv-loop once-μ-loop
-once-add-pc t c = omega (arith, stand-end (c .before .before .before .before .before .before .before .before .before .before .before .before .before .before .pre .1), c .before .if1 .taken)
+once-add-pc t c = omega (arith, stand-end (c .before .before .before .before .before .before .before .before .before .before .before .before .before .before .before .pre .1), c .before .if1 .taken)
 
 once-step-requires : (t : ℕ) → once-lts.Need-step-requires (once-told t) (once-at t) once.Post once-Inv-loop once-μ-loop
 once-step-requires t c κs = settled-edge _ _ _ _ _ _ _ _ _ _ _ _ _ (c .before .before .before .before .before .before .before .before .before .loop .inv) (c .before .before .before .before .before .before .before .before .loop-test .taken) (c .before .before .before .before .before .before .settle .result) _ (c .before .before .before .before .before .before .settle .ensures) _ (c .before .before .before .before .k .given .1) (c .before .before .if1 .taken)
@@ -143,7 +143,7 @@ once-enum-known-ask : (t : ℕ) → once-lts.Need-enum-known-ask (once-told t) (
 once-enum-known-ask t c = search needs
 
 once-take-requires : (t : ℕ) → once-lts.Need-take-requires (once-told t) (once-at t) once.Post once-Inv-loop once-μ-loop
-once-take-requires t c κs = take-fit _ _ _ _ _ _ _ _ _ _ _ _ _ (rows-settled _ _ _ _ _ _ _ _ _ _ _ _ _ (c .before .before .before .before .before .before .before .before .before .before .before .before .before .before .before .before .before .before .before .before .loop .inv) (c .before .before .before .before .before .before .before .before .before .before .before .before .before .before .before .before .before .before .before .loop-test .taken) (c .before .before .before .before .before .before .before .before .before .before .before .before .before .before .before .before .before .settle .result) _ (c .before .before .before .before .before .before .before .before .before .before .before .before .before .before .before .before .before .settle .ensures) _ (c .before .before .before .before .before .before .before .before .before .before .before .before .before .before .before .k .given .1)) (c .before .before .before .before .before .before .before .before .before .before .before .before .before .if1 .taken) (c .before .before .before .before .before .before .before .before .before .before .step .result) (c .before .before .before .before .before .before .before .before .before .before .step .ensures) _ (c .before .before .before .before .before .before .before .before .before .before .before .before .before .before .before .before .before .before .before .before .before .before .before .before .before .before .pre .1) _ (c .before .before .before .before .before .before .before .before .ask .given .1)
+once-take-requires t c κs = take-fit _ _ _ _ _ _ _ _ _ _ _ _ _ (rows-settled _ _ _ _ _ _ _ _ _ _ _ _ _ (c .before .before .before .before .before .before .before .before .before .before .before .before .before .before .before .before .before .before .before .before .loop .inv) (c .before .before .before .before .before .before .before .before .before .before .before .before .before .before .before .before .before .before .before .loop-test .taken) (c .before .before .before .before .before .before .before .before .before .before .before .before .before .before .before .before .before .settle .result) _ (c .before .before .before .before .before .before .before .before .before .before .before .before .before .before .before .before .before .settle .ensures) _ (c .before .before .before .before .before .before .before .before .before .before .before .before .before .before .before .k .given .1)) (c .before .before .before .before .before .before .before .before .before .before .before .before .before .if1 .taken) (c .before .before .before .before .before .before .before .before .before .before .step .result) (c .before .before .before .before .before .before .before .before .before .before .step .ensures) _ (c .before .before .before .before .before .before .before .before .before .before .before .before .before .before .before .before .before .before .before .before .before .before .before .before .before .before .before .pre .1) _ (c .before .before .before .before .before .before .before .before .ask .given .1)
 
 once-onward-requires : (t : ℕ) → once-lts.Need-onward-requires (once-told t) (once-at t) once.Post once-Inv-loop once-μ-loop
 once-onward-requires t c κs = search needs
@@ -152,13 +152,13 @@ once-loop-less-2 : (t : ℕ) → once-lts.Need-loop-less-2 (once-told t) (once-a
 once-loop-less-2 t c = ahead-less _ _ _ _ (settled _ _ _ _ _ _ _ _ _ _ _ _ _ (c .before .before .before .before .before .before .before .before .before .before .before .before .before .before .before .before .before .before .before .before .before .before .before .before .before .before .before .before .before .before .before .before .loop .inv) (c .before .before .before .before .before .before .before .before .before .before .before .before .before .before .before .before .before .before .before .before .before .before .before .before .before .before .before .before .before .before .before .loop-test .taken) (c .before .before .before .before .before .before .before .before .before .before .before .before .before .before .before .before .before .before .before .before .before .before .before .before .before .before .before .before .before .settle .result) _ (c .before .before .before .before .before .before .before .before .before .before .before .before .before .before .before .before .before .before .before .before .before .before .before .before .before .before .before .before .before .settle .ensures) _ (c .before .before .before .before .before .before .before .before .before .before .before .before .before .before .before .before .before .before .before .before .before .before .before .before .before .before .before .k .given .1) .ahead) (on-less (c .before .before .before .before .before .before .before .before .before .before .before .take .result .stopped) _ _ _ (c .before .before .before .before .before .before .before .before .before .before .before .before .before .before .before .before .before .before .before .before .before .before .before .before .before .if1 .taken) (c .onward .ensures))
 
 once-loop-again-2 : (t : ℕ) → once-lts.Need-loop-again-2 (once-told t) (once-at t) once.Post once-Inv-loop once-μ-loop
-once-loop-again-2 t c = rows-take _ _ _ _ _ _ _ _ _ _ _ _ _ (rows-settled _ _ _ _ _ _ _ _ _ _ _ _ _ (c .before .before .before .before .before .before .before .before .before .before .before .before .before .before .before .before .before .before .before .before .before .before .before .before .before .before .before .before .before .before .before .before .loop .inv) (c .before .before .before .before .before .before .before .before .before .before .before .before .before .before .before .before .before .before .before .before .before .before .before .before .before .before .before .before .before .before .before .loop-test .taken) (c .before .before .before .before .before .before .before .before .before .before .before .before .before .before .before .before .before .before .before .before .before .before .before .before .before .before .before .before .before .settle .result) _ (c .before .before .before .before .before .before .before .before .before .before .before .before .before .before .before .before .before .before .before .before .before .before .before .before .before .before .before .before .before .settle .ensures) _ (c .before .before .before .before .before .before .before .before .before .before .before .before .before .before .before .before .before .before .before .before .before .before .before .before .before .before .before .k .given .1)) (c .before .before .before .before .before .before .before .before .before .before .before .before .before .before .before .before .before .before .before .before .before .before .before .before .before .if1 .taken) (c .before .before .before .before .before .before .before .before .before .before .before .before .before .before .before .before .before .before .before .before .before .before .step .result) (c .before .before .before .before .before .before .before .before .before .before .before .before .before .before .before .before .before .before .before .before .before .before .step .ensures) _ (c .before .before .before .before .before .before .before .before .before .before .before .before .before .before .before .before .before .before .before .before .before .before .before .before .before .before .before .before .before .before .before .before .before .before .before .before .before .before .pre .1 .stands) _ (c .before .before .before .before .before .before .before .before .before .before .before .before .before .before .before .before .before .before .before .before .ask .given .1) (c .before .before .before .before .before .before .before .before .before .before .before .take .result) _ _ (c .before .before .before .before .before .before .before .before .before .before .before .take .ensures) (record { n = c .before .before .before .before .before .before .before .before .before .before .before .take .kept .1 .0; b = c .before .before .before .before .before .before .before .before .before .before .before .take .kept .1 .1 .0; i = c .before .before .before .before .before .before .before .before .before .before .before .take .kept .1 .1 .1 .0; f = c .before .before .before .before .before .before .before .before .before .before .before .take .kept .1 .1 .1 .1 .0; w = c .before .before .before .before .before .before .before .before .before .before .before .take .kept .1 .1 .1 .1 .1 .0; v = c .before .before .before .before .before .before .before .before .before .before .before .take .kept .1 .1 .1 .1 .1 .1 .0 }) _ (c .onward .ensures)
+once-loop-again-2 t c = rows-take _ _ _ _ _ _ _ _ _ _ _ _ _ (rows-settled _ _ _ _ _ _ _ _ _ _ _ _ _ (c .before .before .before .before .before .before .before .before .before .before .before .before .before .before .before .before .before .before .before .before .before .before .before .before .before .before .before .before .before .before .before .before .loop .inv) (c .before .before .before .before .before .before .before .before .before .before .before .before .before .before .before .before .before .before .before .before .before .before .before .before .before .before .before .before .before .before .before .loop-test .taken) (c .before .before .before .before .before .before .before .before .before .before .before .before .before .before .before .before .before .before .before .before .before .before .before .before .before .before .before .before .before .settle .result) _ (c .before .before .before .before .before .before .before .before .before .before .before .before .before .before .before .before .before .before .before .before .before .before .before .before .before .before .before .before .before .settle .ensures) _ (c .before .before .before .before .before .before .before .before .before .before .before .before .before .before .before .before .before .before .before .before .before .before .before .before .before .before .before .k .given .1)) (c .before .before .before .before .before .before .before .before .before .before .before .before .before .before .before .before .before .before .before .before .before .before .before .before .before .if1 .taken) (c .before .before .before .before .before .before .before .before .before .before .before .before .before .before .before .before .before .before .before .before .before .before .step .result) (c .before .before .before .before .before .before .before .before .before .before .before .before .before .before .before .before .before .before .before .before .before .before .step .ensures) _ (c .before .before .before .before .before .before .before .before .before .before .before .before .before .before .before .before .before .before .before .before .before .before .before .before .before .before .before .before .before .before .before .before .before .before .before .before .before .before .before .pre .1 .stands) _ (c .before .before .before .before .before .before .before .before .before .before .before .before .before .before .before .before .before .before .before .before .ask .given .1) (c .before .before .before .before .before .before .before .before .before .before .before .take .result) _ _ (c .before .before .before .before .before .before .before .before .before .before .before .take .ensures) (record { n = c .before .before .before .before .before .before .before .before .before .before .before .take .kept .1 .0; b = c .before .before .before .before .before .before .before .before .before .before .before .take .kept .1 .1 .0; i = c .before .before .before .before .before .before .before .before .before .before .before .take .kept .1 .1 .1 .0; f = c .before .before .before .before .before .before .before .before .before .before .before .take .kept .1 .1 .1 .1 .0; w = c .before .before .before .before .before .before .before .before .before .before .before .take .kept .1 .1 .1 .1 .1 .0; v = c .before .before .before .before .before .before .before .before .before .before .before .take .kept .1 .1 .1 .1 .1 .1 .0 }) _ (c .onward .ensures)
 
 once-enum-known-name : (t : ℕ) → once-lts.Need-enum-known-name (once-told t) (once-at t) once.Post once-Inv-loop once-μ-loop
 once-enum-known-name t c = search needs
 
 once-scan-requires : (t : ℕ) → once-lts.Need-scan-requires (once-told t) (once-at t) once.Post once-Inv-loop once-μ-loop
-once-scan-requires t c κs = (c .before .before .before .before .before .before .before .before .before .before .before .before .before .before .before .before .before .before .before .before .before .loop .inv .held .size, c .before .before .before .before .before .before .before .before .before .before .before .before .before .before .before .before .before .before .before .before .before .before .before .before .before .before .before .pre .1 .within)
+once-scan-requires t c κs = (c .before .before .before .before .before .before .before .before .before .before .before .before .before .before .before .before .before .before .before .before .before .loop .inv .held .size, c .before .before .before .before .before .before .before .before .before .before .before .before .before .before .before .before .before .before .before .before .before .before .before .before .before .before .before .before .pre .1 .within)
 
 once-onward-requires-2 : (t : ℕ) → once-lts.Need-onward-requires-2 (once-told t) (once-at t) once.Post once-Inv-loop once-μ-loop
 once-onward-requires-2 t c = search needs
@@ -167,7 +167,7 @@ once-loop-less-3 : (t : ℕ) → once-lts.Need-loop-less-3 (once-told t) (once-a
 once-loop-less-3 t c = ahead-less _ _ _ _ (settled _ _ _ _ _ _ _ _ _ _ _ _ _ (c .before .before .before .before .before .before .before .before .before .before .before .before .before .before .before .before .before .before .before .before .before .before .before .before .before .before .before .before .before .before .before .before .before .loop .inv) (c .before .before .before .before .before .before .before .before .before .before .before .before .before .before .before .before .before .before .before .before .before .before .before .before .before .before .before .before .before .before .before .before .loop-test .taken) (c .before .before .before .before .before .before .before .before .before .before .before .before .before .before .before .before .before .before .before .before .before .before .before .before .before .before .before .before .before .before .settle .result) _ (c .before .before .before .before .before .before .before .before .before .before .before .before .before .before .before .before .before .before .before .before .before .before .before .before .before .before .before .before .before .before .settle .ensures) _ (c .before .before .before .before .before .before .before .before .before .before .before .before .before .before .before .before .before .before .before .before .before .before .before .before .before .before .before .before .k .given .1) .ahead) (on-less (c .before .before .before .before .before .before .before .before .before .before .before .scan .result .stopped) _ _ _ (c .before .before .before .before .before .before .before .before .before .before .before .before .before .before .before .before .before .before .before .before .before .before .before .before .before .before .if1 .taken) (c .onward2 .ensures))
 
 once-loop-again-3 : (t : ℕ) → once-lts.Need-loop-again-3 (once-told t) (once-at t) once.Post once-Inv-loop once-μ-loop
-once-loop-again-3 t c = rows-walk _ _ _ _ _ _ _ _ _ _ _ _ _ (rows-settled _ _ _ _ _ _ _ _ _ _ _ _ _ (c .before .before .before .before .before .before .before .before .before .before .before .before .before .before .before .before .before .before .before .before .before .before .before .before .before .before .before .before .before .before .before .before .before .loop .inv) (c .before .before .before .before .before .before .before .before .before .before .before .before .before .before .before .before .before .before .before .before .before .before .before .before .before .before .before .before .before .before .before .before .loop-test .taken) (c .before .before .before .before .before .before .before .before .before .before .before .before .before .before .before .before .before .before .before .before .before .before .before .before .before .before .before .before .before .before .settle .result) _ (c .before .before .before .before .before .before .before .before .before .before .before .before .before .before .before .before .before .before .before .before .before .before .before .before .before .before .before .before .before .before .settle .ensures) _ (c .before .before .before .before .before .before .before .before .before .before .before .before .before .before .before .before .before .before .before .before .before .before .before .before .before .before .before .before .k .given .1)) (c .before .before .before .before .before .before .before .before .before .before .before .before .before .before .before .before .before .before .before .before .before .before .before .before .before .before .if1 .taken) (c .before .before .before .before .before .before .before .before .before .before .before .before .before .before .before .before .before .before .before .before .before .before .before .step .result) (c .before .before .before .before .before .before .before .before .before .before .before .before .before .before .before .before .before .before .before .before .before .before .before .step .ensures) _ (c .before .before .before .before .before .before .before .before .before .before .before .before .before .before .before .before .before .before .before .before .before .before .before .before .before .before .before .before .before .before .before .before .before .before .before .before .before .before .before .pre .1 .stands) _ _ (c .before .before .before .before .before .before .before .before .before .before .before .before .before .before .before .before .before .before .before .before .before .name .given .1) (c .before .before .before .before .before .before .before .before .before .before .before .scan .result) _ _ (c .before .before .before .before .before .before .before .before .before .before .before .scan .ensures) (record { n = c .before .before .before .before .before .before .before .before .before .before .before .scan .kept .1 .0; b = c .before .before .before .before .before .before .before .before .before .before .before .scan .kept .1 .1 .0; i = c .before .before .before .before .before .before .before .before .before .before .before .scan .kept .1 .1 .1 .0; f = c .before .before .before .before .before .before .before .before .before .before .before .scan .kept .1 .1 .1 .1 .0; w = c .before .before .before .before .before .before .before .before .before .before .before .scan .kept .1 .1 .1 .1 .1 .0; v = c .before .before .before .before .before .before .before .before .before .before .before .scan .kept .1 .1 .1 .1 .1 .1 .0 }) _ (c .onward2 .ensures)
+once-loop-again-3 t c = rows-walk _ _ _ _ _ _ _ _ _ _ _ _ _ (rows-settled _ _ _ _ _ _ _ _ _ _ _ _ _ (c .before .before .before .before .before .before .before .before .before .before .before .before .before .before .before .before .before .before .before .before .before .before .before .before .before .before .before .before .before .before .before .before .before .loop .inv) (c .before .before .before .before .before .before .before .before .before .before .before .before .before .before .before .before .before .before .before .before .before .before .before .before .before .before .before .before .before .before .before .before .loop-test .taken) (c .before .before .before .before .before .before .before .before .before .before .before .before .before .before .before .before .before .before .before .before .before .before .before .before .before .before .before .before .before .before .settle .result) _ (c .before .before .before .before .before .before .before .before .before .before .before .before .before .before .before .before .before .before .before .before .before .before .before .before .before .before .before .before .before .before .settle .ensures) _ (c .before .before .before .before .before .before .before .before .before .before .before .before .before .before .before .before .before .before .before .before .before .before .before .before .before .before .before .before .k .given .1)) (c .before .before .before .before .before .before .before .before .before .before .before .before .before .before .before .before .before .before .before .before .before .before .before .before .before .before .if1 .taken) (c .before .before .before .before .before .before .before .before .before .before .before .before .before .before .before .before .before .before .before .before .before .before .before .step .result) (c .before .before .before .before .before .before .before .before .before .before .before .before .before .before .before .before .before .before .before .before .before .before .before .step .ensures) _ (c .before .before .before .before .before .before .before .before .before .before .before .before .before .before .before .before .before .before .before .before .before .before .before .before .before .before .before .before .before .before .before .before .before .before .before .before .before .before .before .before .pre .1 .stands) _ _ (c .before .before .before .before .before .before .before .before .before .before .before .before .before .before .before .before .before .before .before .before .before .name .given .1) (c .before .before .before .before .before .before .before .before .before .before .before .scan .result) _ _ (c .before .before .before .before .before .before .before .before .before .before .before .scan .ensures) (record { n = c .before .before .before .before .before .before .before .before .before .before .before .scan .kept .1 .0; b = c .before .before .before .before .before .before .before .before .before .before .before .scan .kept .1 .1 .0; i = c .before .before .before .before .before .before .before .before .before .before .before .scan .kept .1 .1 .1 .0; f = c .before .before .before .before .before .before .before .before .before .before .before .scan .kept .1 .1 .1 .1 .0; w = c .before .before .before .before .before .before .before .before .before .before .before .scan .kept .1 .1 .1 .1 .1 .0; v = c .before .before .before .before .before .before .before .before .before .before .before .scan .kept .1 .1 .1 .1 .1 .1 .0 }) _ (c .onward2 .ensures)
 
 once-enum-known-a : (t : ℕ) → once-lts.Need-enum-known-a (once-told t) (once-at t) once.Post once-Inv-loop once-μ-loop
 once-enum-known-a t c = search needs
@@ -188,7 +188,7 @@ once-loop-less-5 : (t : ℕ) → once-lts.Need-loop-less-5 (once-told t) (once-a
 once-loop-less-5 t c = ahead-less _ _ _ _ (settled _ _ _ _ _ _ _ _ _ _ _ _ _ (c .before .before .before .before .before .before .before .before .before .before .before .before .before .before .before .before .before .before .loop .inv) (c .before .before .before .before .before .before .before .before .before .before .before .before .before .before .before .before .before .loop-test .taken) (c .before .before .before .before .before .before .before .before .before .before .before .before .before .before .before .settle .result) _ (c .before .before .before .before .before .before .before .before .before .before .before .before .before .before .before .settle .ensures) _ (c .before .before .before .before .before .before .before .before .before .before .before .before .before .k .given .1) .ahead) (omega (arith, c .before .before .before .before .before .before .before .before .before .before .before .if1 .taken))
 
 once-loop-again-5 : (t : ℕ) → once-lts.Need-loop-again-5 (once-told t) (once-at t) once.Post once-Inv-loop once-μ-loop
-once-loop-again-5 t c = rows-act _ _ _ _ _ _ _ _ _ _ _ _ _ (rows-settled _ _ _ _ _ _ _ _ _ _ _ _ _ (c .before .before .before .before .before .before .before .before .before .before .before .before .before .before .before .before .before .before .loop .inv) (c .before .before .before .before .before .before .before .before .before .before .before .before .before .before .before .before .before .loop-test .taken) (c .before .before .before .before .before .before .before .before .before .before .before .before .before .before .before .settle .result) _ (c .before .before .before .before .before .before .before .before .before .before .before .before .before .before .before .settle .ensures) _ (c .before .before .before .before .before .before .before .before .before .before .before .before .before .k .given .1)) (c .before .before .before .before .before .before .before .before .before .before .before .if1 .taken) (c .before .before .before .before .before .before .before .before .step .result) (c .before .before .before .before .before .before .before .before .step .ensures) _ _ (c .before .before .before .before .before .before .a .given .1) _ _ _ (c .before .act .ensures) _ (c .before .before .before .before .before .before .before .before .before .before .before .before .before .before .before .before .before .before .before .before .before .before .before .before .pre .1 .stands) (c .if2 .left)
+once-loop-again-5 t c = rows-act _ _ _ _ _ _ _ _ _ _ _ _ _ (rows-settled _ _ _ _ _ _ _ _ _ _ _ _ _ (c .before .before .before .before .before .before .before .before .before .before .before .before .before .before .before .before .before .before .loop .inv) (c .before .before .before .before .before .before .before .before .before .before .before .before .before .before .before .before .before .loop-test .taken) (c .before .before .before .before .before .before .before .before .before .before .before .before .before .before .before .settle .result) _ (c .before .before .before .before .before .before .before .before .before .before .before .before .before .before .before .settle .ensures) _ (c .before .before .before .before .before .before .before .before .before .before .before .before .before .k .given .1)) (c .before .before .before .before .before .before .before .before .before .before .before .if1 .taken) (c .before .before .before .before .before .before .before .before .step .result) (c .before .before .before .before .before .before .before .before .step .ensures) _ _ (c .before .before .before .before .before .before .a .given .1) _ _ _ (c .before .act .ensures) _ (c .before .before .before .before .before .before .before .before .before .before .before .before .before .before .before .before .before .before .before .before .before .before .before .before .before .pre .1 .stands) (c .if2 .left)
 
 once-enum-known-i : (t : ℕ) → once-lts.Need-enum-known-i (once-told t) (once-at t) once.Post once-Inv-loop once-μ-loop
 once-enum-known-i t c = search needs
@@ -197,13 +197,13 @@ once-cast-end : (t : ℕ) → once-lts.Need-cast-end (once-told t) (once-at t) o
 once-cast-end t c = search needs
 
 once-add-end : (t : ℕ) → once-lts.Need-add-end (once-told t) (once-at t) once.Post once-Inv-loop once-μ-loop
-once-add-end t c = small-fits _ (le-trans (each-within _ _ _ _ _ _ _ _ _ _ _ _ _ (rows-settled _ _ _ _ _ _ _ _ _ _ _ _ _ (c .before .before .before .before .before .before .before .before .before .before .before .before .before .loop .inv) (c .before .before .before .before .before .before .before .before .before .before .before .before .loop-test .taken) (c .before .before .before .before .before .before .before .before .before .before .settle .result) _ (c .before .before .before .before .before .before .before .before .before .before .settle .ensures) _ (c .before .before .before .before .before .before .before .before .k .given .1)) (c .before .before .before .before .before .before .if1 .taken) (c .before .before .before .step .result) (c .before .before .before .step .ensures) _ _ _ _ (c .before .i .given .1) _ (c .before .before .before .before .before .before .before .before .before .before .before .before .before .before .before .before .before .before .before .pre .1 .stands)) (stand-end (c .before .before .before .before .before .before .before .before .before .before .before .before .before .before .before .before .before .before .before .pre .1)))
+once-add-end t c = small-fits _ (le-trans (each-within _ _ _ _ _ _ _ _ _ _ _ _ _ (rows-settled _ _ _ _ _ _ _ _ _ _ _ _ _ (c .before .before .before .before .before .before .before .before .before .before .before .before .before .loop .inv) (c .before .before .before .before .before .before .before .before .before .before .before .before .loop-test .taken) (c .before .before .before .before .before .before .before .before .before .before .settle .result) _ (c .before .before .before .before .before .before .before .before .before .before .settle .ensures) _ (c .before .before .before .before .before .before .before .before .k .given .1)) (c .before .before .before .before .before .before .if1 .taken) (c .before .before .before .step .result) (c .before .before .before .step .ensures) _ _ _ _ (c .before .i .given .1) _ (c .before .before .before .before .before .before .before .before .before .before .before .before .before .before .before .before .before .before .before .before .pre .1 .stands)) (stand-end (c .before .before .before .before .before .before .before .before .before .before .before .before .before .before .before .before .before .before .before .before .pre .1)))
 
 once-quiet-requires : (t : ℕ) → once-lts.Need-quiet-requires (once-told t) (once-at t) once.Post once-Inv-loop once-μ-loop
-once-quiet-requires t c κs = each-standing _ _ _ _ _ _ _ _ _ _ _ _ _ (rows-settled _ _ _ _ _ _ _ _ _ _ _ _ _ (c .before .before .before .before .before .before .before .before .before .before .before .before .before .loop .inv) (c .before .before .before .before .before .before .before .before .before .before .before .before .loop-test .taken) (c .before .before .before .before .before .before .before .before .before .before .settle .result) _ (c .before .before .before .before .before .before .before .before .before .before .settle .ensures) _ (c .before .before .before .before .before .before .before .before .k .given .1)) (c .before .before .before .before .before .before .if1 .taken) (c .before .before .before .step .result) (c .before .before .before .step .ensures) _ _ _ _ (c .before .i .given .1) _ (c .before .before .before .before .before .before .before .before .before .before .before .before .before .before .before .before .before .before .before .pre .1)
+once-quiet-requires t c κs = each-standing _ _ _ _ _ _ _ _ _ _ _ _ _ (rows-settled _ _ _ _ _ _ _ _ _ _ _ _ _ (c .before .before .before .before .before .before .before .before .before .before .before .before .before .loop .inv) (c .before .before .before .before .before .before .before .before .before .before .before .before .loop-test .taken) (c .before .before .before .before .before .before .before .before .before .before .settle .result) _ (c .before .before .before .before .before .before .before .before .before .before .settle .ensures) _ (c .before .before .before .before .before .before .before .before .k .given .1)) (c .before .before .before .before .before .before .if1 .taken) (c .before .before .before .step .result) (c .before .before .before .step .ensures) _ _ _ _ (c .before .i .given .1) _ (c .before .before .before .before .before .before .before .before .before .before .before .before .before .before .before .before .before .before .before .before .pre .1)
 
 once-stir-requires : (t : ℕ) → once-lts.Need-stir-requires (once-told t) (once-at t) once.Post once-Inv-loop once-μ-loop
-once-stir-requires t c κs = (each-standing _ _ _ _ _ _ _ _ _ _ _ _ _ (rows-settled _ _ _ _ _ _ _ _ _ _ _ _ _ (c .before .before .before .before .before .before .before .before .before .before .before .before .before .before .before .before .loop .inv) (c .before .before .before .before .before .before .before .before .before .before .before .before .before .before .before .loop-test .taken) (c .before .before .before .before .before .before .before .before .before .before .before .before .before .settle .result) _ (c .before .before .before .before .before .before .before .before .before .before .before .before .before .settle .ensures) _ (c .before .before .before .before .before .before .before .before .before .before .before .k .given .1)) (c .before .before .before .before .before .before .before .before .before .if1 .taken) (c .before .before .before .before .before .before .step .result) (c .before .before .before .before .before .before .step .ensures) _ _ _ _ (c .before .before .before .before .i .given .1) _ (c .before .before .before .before .before .before .before .before .before .before .before .before .before .before .before .before .before .before .before .before .before .before .pre .1), record { is = λ _. c .before .before .quiet .ensures .is (c .before .if3 .taken) })
+once-stir-requires t c κs = (each-standing _ _ _ _ _ _ _ _ _ _ _ _ _ (rows-settled _ _ _ _ _ _ _ _ _ _ _ _ _ (c .before .before .before .before .before .before .before .before .before .before .before .before .before .before .before .before .loop .inv) (c .before .before .before .before .before .before .before .before .before .before .before .before .before .before .before .loop-test .taken) (c .before .before .before .before .before .before .before .before .before .before .before .before .before .settle .result) _ (c .before .before .before .before .before .before .before .before .before .before .before .before .before .settle .ensures) _ (c .before .before .before .before .before .before .before .before .before .before .before .k .given .1)) (c .before .before .before .before .before .before .before .before .before .if1 .taken) (c .before .before .before .before .before .before .step .result) (c .before .before .before .before .before .before .step .ensures) _ _ _ _ (c .before .before .before .before .i .given .1) _ (c .before .before .before .before .before .before .before .before .before .before .before .before .before .before .before .before .before .before .before .before .before .before .before .pre .1), record { is = λ _. c .before .before .quiet .ensures .is (c .before .if3 .taken) })
 
 once-enum-known-number-2 : (t : ℕ) → once-lts.Need-enum-known-number-2 (once-told t) (once-at t) once.Post once-Inv-loop once-μ-loop
 once-enum-known-number-2 t c = search needs
@@ -215,7 +215,7 @@ once-loop-less-6 : (t : ℕ) → once-lts.Need-loop-less-6 (once-told t) (once-a
 once-loop-less-6 t c = omega (arith, c .before .before .before .before .before .before .before .before .before .before .before .before .before .before .before .before .before .before .before .before .loop-test .taken)
 
 once-loop-again-6 : (t : ℕ) → once-lts.Need-loop-again-6 (once-told t) (once-at t) once.Post once-Inv-loop once-μ-loop
-once-loop-again-6 t c = rows-stir-off _ _ _ _ _ _ _ _ _ _ _ _ _ (rows-settled _ _ _ _ _ _ _ _ _ _ _ _ _ (c .before .before .before .before .before .before .before .before .before .before .before .before .before .before .before .before .before .before .before .before .before .loop .inv) (c .before .before .before .before .before .before .before .before .before .before .before .before .before .before .before .before .before .before .before .before .loop-test .taken) (c .before .before .before .before .before .before .before .before .before .before .before .before .before .before .before .before .before .before .settle .result) _ (c .before .before .before .before .before .before .before .before .before .before .before .before .before .before .before .before .before .before .settle .ensures) _ (c .before .before .before .before .before .before .before .before .before .before .before .before .before .before .before .before .k .given .1)) (c .before .before .before .before .before .before .before .before .before .before .before .before .before .before .if1 .taken) (c .before .before .before .before .before .before .before .before .before .before .before .step .result) (c .before .before .before .before .before .before .before .before .before .before .before .step .ensures) _ _ _ _ (c .before .before .before .before .before .before .before .before .before .i .given .1) (c .before .before .before .before .stir .result) _ (c .before .before .before .before .stir .ensures) _ (c .before .before .before .before .before .before .before .before .before .before .before .before .before .before .before .before .before .before .before .before .before .before .before .before .before .before .before .pre .1 .stands) _ (c .before .before .number2 .given .1) (c .halted3 .result) (c .halted3 .ensures)
+once-loop-again-6 t c = rows-stir-off _ _ _ _ _ _ _ _ _ _ _ _ _ (rows-settled _ _ _ _ _ _ _ _ _ _ _ _ _ (c .before .before .before .before .before .before .before .before .before .before .before .before .before .before .before .before .before .before .before .before .before .loop .inv) (c .before .before .before .before .before .before .before .before .before .before .before .before .before .before .before .before .before .before .before .before .loop-test .taken) (c .before .before .before .before .before .before .before .before .before .before .before .before .before .before .before .before .before .before .settle .result) _ (c .before .before .before .before .before .before .before .before .before .before .before .before .before .before .before .before .before .before .settle .ensures) _ (c .before .before .before .before .before .before .before .before .before .before .before .before .before .before .before .before .k .given .1)) (c .before .before .before .before .before .before .before .before .before .before .before .before .before .before .if1 .taken) (c .before .before .before .before .before .before .before .before .before .before .before .step .result) (c .before .before .before .before .before .before .before .before .before .before .before .step .ensures) _ _ _ _ (c .before .before .before .before .before .before .before .before .before .i .given .1) (c .before .before .before .before .stir .result) _ (c .before .before .before .before .stir .ensures) _ (c .before .before .before .before .before .before .before .before .before .before .before .before .before .before .before .before .before .before .before .before .before .before .before .before .before .before .before .before .pre .1 .stands) _ (c .before .before .number2 .given .1) (c .halted3 .result) (c .halted3 .ensures)
 
 once-enum-told : (t : ℕ) → once-lts.Need-enum-told (once-told t) (once-at t) once.Post once-Inv-loop once-μ-loop
 once-enum-told t c = search needs
@@ -224,13 +224,13 @@ once-loop-less-7 : (t : ℕ) → once-lts.Need-loop-less-7 (once-told t) (once-a
 once-loop-less-7 t c = ahead-less _ _ _ _ (settled _ _ _ _ _ _ _ _ _ _ _ _ _ (c .before .before .before .before .before .before .before .before .before .before .before .before .before .before .before .before .before .before .before .loop .inv) (c .before .before .before .before .before .before .before .before .before .before .before .before .before .before .before .before .before .before .loop-test .taken) (c .before .before .before .before .before .before .before .before .before .before .before .before .before .before .before .before .settle .result) _ (c .before .before .before .before .before .before .before .before .before .before .before .before .before .before .before .before .settle .ensures) _ (c .before .before .before .before .before .before .before .before .before .before .before .before .before .before .k .given .1) .ahead) (omega (arith, c .before .before .before .before .before .before .before .before .before .before .before .before .if1 .taken))
 
 once-loop-again-7 : (t : ℕ) → once-lts.Need-loop-again-7 (once-told t) (once-at t) once.Post once-Inv-loop once-μ-loop
-once-loop-again-7 t c = rows-stirred _ _ _ _ _ _ _ _ _ _ _ _ _ (rows-settled _ _ _ _ _ _ _ _ _ _ _ _ _ (c .before .before .before .before .before .before .before .before .before .before .before .before .before .before .before .before .before .before .before .loop .inv) (c .before .before .before .before .before .before .before .before .before .before .before .before .before .before .before .before .before .before .loop-test .taken) (c .before .before .before .before .before .before .before .before .before .before .before .before .before .before .before .before .settle .result) _ (c .before .before .before .before .before .before .before .before .before .before .before .before .before .before .before .before .settle .ensures) _ (c .before .before .before .before .before .before .before .before .before .before .before .before .before .before .k .given .1)) (c .before .before .before .before .before .before .before .before .before .before .before .before .if1 .taken) (c .before .before .before .before .before .before .before .before .before .step .result) (c .before .before .before .before .before .before .before .before .before .step .ensures) _ _ _ _ (c .before .before .before .before .before .before .before .i .given .1) (c .before .before .stir .result) _ (c .before .before .stir .ensures) _ (c .before .before .before .before .before .before .before .before .before .before .before .before .before .before .before .before .before .before .before .before .before .before .before .before .before .pre .1 .stands) _ (c .enum-told .given .1)
+once-loop-again-7 t c = rows-stirred _ _ _ _ _ _ _ _ _ _ _ _ _ (rows-settled _ _ _ _ _ _ _ _ _ _ _ _ _ (c .before .before .before .before .before .before .before .before .before .before .before .before .before .before .before .before .before .before .before .loop .inv) (c .before .before .before .before .before .before .before .before .before .before .before .before .before .before .before .before .before .before .loop-test .taken) (c .before .before .before .before .before .before .before .before .before .before .before .before .before .before .before .before .settle .result) _ (c .before .before .before .before .before .before .before .before .before .before .before .before .before .before .before .before .settle .ensures) _ (c .before .before .before .before .before .before .before .before .before .before .before .before .before .before .k .given .1)) (c .before .before .before .before .before .before .before .before .before .before .before .before .if1 .taken) (c .before .before .before .before .before .before .before .before .before .step .result) (c .before .before .before .before .before .before .before .before .before .step .ensures) _ _ _ _ (c .before .before .before .before .before .before .before .i .given .1) (c .before .before .stir .result) _ (c .before .before .stir .ensures) _ (c .before .before .before .before .before .before .before .before .before .before .before .before .before .before .before .before .before .before .before .before .before .before .before .before .before .before .pre .1 .stands) _ (c .enum-told .given .1)
 
 once-plain-requires : (t : ℕ) → once-lts.Need-plain-requires (once-told t) (once-at t) once.Post once-Inv-loop once-μ-loop
-once-plain-requires t c κs = each-standing _ _ _ _ _ _ _ _ _ _ _ _ _ (rows-settled _ _ _ _ _ _ _ _ _ _ _ _ _ (c .before .before .before .before .before .before .before .before .before .before .before .before .before .before .before .loop .inv) (c .before .before .before .before .before .before .before .before .before .before .before .before .before .before .loop-test .taken) (c .before .before .before .before .before .before .before .before .before .before .before .before .settle .result) _ (c .before .before .before .before .before .before .before .before .before .before .before .before .settle .ensures) _ (c .before .before .before .before .before .before .before .before .before .before .k .given .1)) (c .before .before .before .before .before .before .before .before .if1 .taken) (c .before .before .before .before .before .step .result) (c .before .before .before .before .before .step .ensures) _ _ _ _ (c .before .before .before .i .given .1) _ (c .before .before .before .before .before .before .before .before .before .before .before .before .before .before .before .before .before .before .before .before .before .pre .1)
+once-plain-requires t c κs = each-standing _ _ _ _ _ _ _ _ _ _ _ _ _ (rows-settled _ _ _ _ _ _ _ _ _ _ _ _ _ (c .before .before .before .before .before .before .before .before .before .before .before .before .before .before .before .loop .inv) (c .before .before .before .before .before .before .before .before .before .before .before .before .before .before .loop-test .taken) (c .before .before .before .before .before .before .before .before .before .before .before .before .settle .result) _ (c .before .before .before .before .before .before .before .before .before .before .before .before .settle .ensures) _ (c .before .before .before .before .before .before .before .before .before .before .k .given .1)) (c .before .before .before .before .before .before .before .before .if1 .taken) (c .before .before .before .before .before .step .result) (c .before .before .before .before .before .step .ensures) _ _ _ _ (c .before .before .before .i .given .1) _ (c .before .before .before .before .before .before .before .before .before .before .before .before .before .before .before .before .before .before .before .before .before .before .pre .1)
 
 once-lines-requires : (t : ℕ) → once-lts.Need-lines-requires (once-told t) (once-at t) once.Post once-Inv-loop once-μ-loop
-once-lines-requires t c κs = (each-stands _ _ _ _ _ _ _ _ _ _ _ _ _ (rows-settled _ _ _ _ _ _ _ _ _ _ _ _ _ (c .before .before .before .before .before .before .before .before .before .before .before .before .before .before .before .before .before .before .before .before .before .before .before .before .before .before .loop .inv) (c .before .before .before .before .before .before .before .before .before .before .before .before .before .before .before .before .before .before .before .before .before .before .before .before .before .loop-test .taken) (c .before .before .before .before .before .before .before .before .before .before .before .before .before .before .before .before .before .before .before .before .before .before .before .settle .result) _ (c .before .before .before .before .before .before .before .before .before .before .before .before .before .before .before .before .before .before .before .before .before .before .before .settle .ensures) _ (c .before .before .before .before .before .before .before .before .before .before .before .before .before .before .before .before .before .before .before .before .before .k .given .1)) (c .before .before .before .before .before .before .before .before .before .before .before .before .before .before .before .before .before .before .before .if1 .taken) (c .before .before .before .before .before .before .before .before .before .before .before .before .before .before .before .before .step .result) (c .before .before .before .before .before .before .before .before .before .before .before .before .before .before .before .before .step .ensures) _ _ _ _ (c .before .before .before .before .before .before .before .before .before .before .before .before .before .before .i .given .1) _ (c .before .before .before .before .before .before .before .before .before .before .before .before .before .before .before .before .before .before .before .before .before .before .before .before .before .before .before .before .before .before .before .before .pre .1), record { is = λ _. c .before .before .before .before .before .before .before .before .before .before .plain .ensures .is (c .before .before .before .before .before .before .before .before .before .if4 .taken) })
+once-lines-requires t c κs = (each-stands _ _ _ _ _ _ _ _ _ _ _ _ _ (rows-settled _ _ _ _ _ _ _ _ _ _ _ _ _ (c .before .before .before .before .before .before .before .before .before .before .before .before .before .before .before .before .before .before .before .before .before .before .before .before .before .before .loop .inv) (c .before .before .before .before .before .before .before .before .before .before .before .before .before .before .before .before .before .before .before .before .before .before .before .before .before .loop-test .taken) (c .before .before .before .before .before .before .before .before .before .before .before .before .before .before .before .before .before .before .before .before .before .before .before .settle .result) _ (c .before .before .before .before .before .before .before .before .before .before .before .before .before .before .before .before .before .before .before .before .before .before .before .settle .ensures) _ (c .before .before .before .before .before .before .before .before .before .before .before .before .before .before .before .before .before .before .before .before .before .k .given .1)) (c .before .before .before .before .before .before .before .before .before .before .before .before .before .before .before .before .before .before .before .if1 .taken) (c .before .before .before .before .before .before .before .before .before .before .before .before .before .before .before .before .step .result) (c .before .before .before .before .before .before .before .before .before .before .before .before .before .before .before .before .step .ensures) _ _ _ _ (c .before .before .before .before .before .before .before .before .before .before .before .before .before .before .i .given .1) _ (c .before .before .before .before .before .before .before .before .before .before .before .before .before .before .before .before .before .before .before .before .before .before .before .before .before .before .before .before .before .before .before .before .before .pre .1), record { is = λ _. c .before .before .before .before .before .before .before .before .before .before .plain .ensures .is (c .before .before .before .before .before .before .before .before .before .if4 .taken) })
 
 once-onward-requires-3 : (t : ℕ) → once-lts.Need-onward-requires-3 (once-told t) (once-at t) once.Post once-Inv-loop once-μ-loop
 once-onward-requires-3 t c = search needs
@@ -239,10 +239,10 @@ once-loop-less-8 : (t : ℕ) → once-lts.Need-loop-less-8 (once-told t) (once-a
 once-loop-less-8 t c = ahead-less _ _ _ _ (settled _ _ _ _ _ _ _ _ _ _ _ _ _ (c .before .before .before .before .before .before .before .before .before .before .before .before .before .before .before .before .before .before .before .before .before .before .before .before .before .before .before .before .before .before .before .before .before .before .before .before .before .before .loop .inv) (c .before .before .before .before .before .before .before .before .before .before .before .before .before .before .before .before .before .before .before .before .before .before .before .before .before .before .before .before .before .before .before .before .before .before .before .before .before .loop-test .taken) (c .before .before .before .before .before .before .before .before .before .before .before .before .before .before .before .before .before .before .before .before .before .before .before .before .before .before .before .before .before .before .before .before .before .before .before .settle .result) _ (c .before .before .before .before .before .before .before .before .before .before .before .before .before .before .before .before .before .before .before .before .before .before .before .before .before .before .before .before .before .before .before .before .before .before .before .settle .ensures) _ (c .before .before .before .before .before .before .before .before .before .before .before .before .before .before .before .before .before .before .before .before .before .before .before .before .before .before .before .before .before .before .before .before .before .k .given .1) .ahead) (past-less (c .before .before .before .before .before .before .before .before .before .before .before .lines .result .stopped) _ _ _ _ (c .before .before .before .before .before .before .before .before .before .before .before .before .before .before .before .before .before .before .before .before .before .before .before .before .before .before .before .before .before .before .before .if1 .taken) (c .onward3 .ensures))
 
 once-loop-again-8 : (t : ℕ) → once-lts.Need-loop-again-8 (once-told t) (once-at t) once.Post once-Inv-loop once-μ-loop
-once-loop-again-8 t c = rows-each _ _ _ _ _ _ _ _ _ _ _ _ _ (rows-settled _ _ _ _ _ _ _ _ _ _ _ _ _ (c .before .before .before .before .before .before .before .before .before .before .before .before .before .before .before .before .before .before .before .before .before .before .before .before .before .before .before .before .before .before .before .before .before .before .before .before .before .before .loop .inv) (c .before .before .before .before .before .before .before .before .before .before .before .before .before .before .before .before .before .before .before .before .before .before .before .before .before .before .before .before .before .before .before .before .before .before .before .before .before .loop-test .taken) (c .before .before .before .before .before .before .before .before .before .before .before .before .before .before .before .before .before .before .before .before .before .before .before .before .before .before .before .before .before .before .before .before .before .before .before .settle .result) _ (c .before .before .before .before .before .before .before .before .before .before .before .before .before .before .before .before .before .before .before .before .before .before .before .before .before .before .before .before .before .before .before .before .before .before .before .settle .ensures) _ (c .before .before .before .before .before .before .before .before .before .before .before .before .before .before .before .before .before .before .before .before .before .before .before .before .before .before .before .before .before .before .before .before .before .k .given .1)) (c .before .before .before .before .before .before .before .before .before .before .before .before .before .before .before .before .before .before .before .before .before .before .before .before .before .before .before .before .before .before .before .if1 .taken) (c .before .before .before .before .before .before .before .before .before .before .before .before .before .before .before .before .before .before .before .before .before .before .before .before .before .before .before .before .step .result) (c .before .before .before .before .before .before .before .before .before .before .before .before .before .before .before .before .before .before .before .before .before .before .before .before .before .before .before .before .step .ensures) _ _ _ _ (c .before .before .before .before .before .before .before .before .before .before .before .before .before .before .before .before .before .before .before .before .before .before .before .before .before .before .i .given .1) _ (c .before .before .before .before .before .before .before .before .before .before .before .before .before .before .before .before .before .before .before .before .before .before .before .before .before .before .before .before .before .before .before .before .before .before .before .before .before .before .before .before .before .before .before .before .pre .1 .stands) (c .before .before .before .before .before .before .before .before .before .before .before .lines .result) _ _ _ (c .before .before .before .before .before .before .before .before .before .before .before .lines .ensures) (record { n = c .before .before .before .before .before .before .before .before .before .before .before .lines .kept .1 .0; b = c .before .before .before .before .before .before .before .before .before .before .before .lines .kept .1 .1 .0; i = c .before .before .before .before .before .before .before .before .before .before .before .lines .kept .1 .1 .1 .0; f = c .before .before .before .before .before .before .before .before .before .before .before .lines .kept .1 .1 .1 .1 .0; w = c .before .before .before .before .before .before .before .before .before .before .before .lines .kept .1 .1 .1 .1 .1 .0; v = c .before .before .before .before .before .before .before .before .before .before .before .lines .kept .1 .1 .1 .1 .1 .1 .0 }) _ (c .onward3 .ensures)
+once-loop-again-8 t c = rows-each _ _ _ _ _ _ _ _ _ _ _ _ _ (rows-settled _ _ _ _ _ _ _ _ _ _ _ _ _ (c .before .before .before .before .before .before .before .before .before .before .before .before .before .before .before .before .before .before .before .before .before .before .before .before .before .before .before .before .before .before .before .before .before .before .before .before .before .before .loop .inv) (c .before .before .before .before .before .before .before .before .before .before .before .before .before .before .before .before .before .before .before .before .before .before .before .before .before .before .before .before .before .before .before .before .before .before .before .before .before .loop-test .taken) (c .before .before .before .before .before .before .before .before .before .before .before .before .before .before .before .before .before .before .before .before .before .before .before .before .before .before .before .before .before .before .before .before .before .before .before .settle .result) _ (c .before .before .before .before .before .before .before .before .before .before .before .before .before .before .before .before .before .before .before .before .before .before .before .before .before .before .before .before .before .before .before .before .before .before .before .settle .ensures) _ (c .before .before .before .before .before .before .before .before .before .before .before .before .before .before .before .before .before .before .before .before .before .before .before .before .before .before .before .before .before .before .before .before .before .k .given .1)) (c .before .before .before .before .before .before .before .before .before .before .before .before .before .before .before .before .before .before .before .before .before .before .before .before .before .before .before .before .before .before .before .if1 .taken) (c .before .before .before .before .before .before .before .before .before .before .before .before .before .before .before .before .before .before .before .before .before .before .before .before .before .before .before .before .step .result) (c .before .before .before .before .before .before .before .before .before .before .before .before .before .before .before .before .before .before .before .before .before .before .before .before .before .before .before .before .step .ensures) _ _ _ _ (c .before .before .before .before .before .before .before .before .before .before .before .before .before .before .before .before .before .before .before .before .before .before .before .before .before .before .i .given .1) _ (c .before .before .before .before .before .before .before .before .before .before .before .before .before .before .before .before .before .before .before .before .before .before .before .before .before .before .before .before .before .before .before .before .before .before .before .before .before .before .before .before .before .before .before .before .before .pre .1 .stands) (c .before .before .before .before .before .before .before .before .before .before .before .lines .result) _ _ _ (c .before .before .before .before .before .before .before .before .before .before .before .lines .ensures) (record { n = c .before .before .before .before .before .before .before .before .before .before .before .lines .kept .1 .0; b = c .before .before .before .before .before .before .before .before .before .before .before .lines .kept .1 .1 .0; i = c .before .before .before .before .before .before .before .before .before .before .before .lines .kept .1 .1 .1 .0; f = c .before .before .before .before .before .before .before .before .before .before .before .lines .kept .1 .1 .1 .1 .0; w = c .before .before .before .before .before .before .before .before .before .before .before .lines .kept .1 .1 .1 .1 .1 .0; v = c .before .before .before .before .before .before .before .before .before .before .before .lines .kept .1 .1 .1 .1 .1 .1 .0 }) _ (c .onward3 .ensures)
 
 once-each-requires : (t : ℕ) → once-lts.Need-each-requires (once-told t) (once-at t) once.Post once-Inv-loop once-μ-loop
-once-each-requires t c κs = (fewer _ _ _ _ _ (c .before .before .before .before .before .before .before .before .before .before .before .before .before .before .before .before .before .before .before .before .before .before .before .before .before .before .before .before .before .before .before .before .pre .0) ((rows-settled _ _ _ _ _ _ _ _ _ _ _ _ _ (c .before .before .before .before .before .before .before .before .before .before .before .before .before .before .before .before .before .before .before .before .before .before .before .before .before .before .loop .inv) (c .before .before .before .before .before .before .before .before .before .before .before .before .before .before .before .before .before .before .before .before .before .before .before .before .before .loop-test .taken) (c .before .before .before .before .before .before .before .before .before .before .before .before .before .before .before .before .before .before .before .before .before .before .before .settle .result) _ (c .before .before .before .before .before .before .before .before .before .before .before .before .before .before .before .before .before .before .before .before .before .before .before .settle .ensures) _ (c .before .before .before .before .before .before .before .before .before .before .before .before .before .before .before .before .before .before .before .before .before .k .given .1)) .past) (each-within _ _ _ _ _ _ _ _ _ _ _ _ _ (rows-settled _ _ _ _ _ _ _ _ _ _ _ _ _ (c .before .before .before .before .before .before .before .before .before .before .before .before .before .before .before .before .before .before .before .before .before .before .before .before .before .before .loop .inv) (c .before .before .before .before .before .before .before .before .before .before .before .before .before .before .before .before .before .before .before .before .before .before .before .before .before .loop-test .taken) (c .before .before .before .before .before .before .before .before .before .before .before .before .before .before .before .before .before .before .before .before .before .before .before .settle .result) _ (c .before .before .before .before .before .before .before .before .before .before .before .before .before .before .before .before .before .before .before .before .before .before .before .settle .ensures) _ (c .before .before .before .before .before .before .before .before .before .before .before .before .before .before .before .before .before .before .before .before .before .k .given .1)) (c .before .before .before .before .before .before .before .before .before .before .before .before .before .before .before .before .before .before .before .if1 .taken) (c .before .before .before .before .before .before .before .before .before .before .before .before .before .before .before .before .step .result) (c .before .before .before .before .before .before .before .before .before .before .before .before .before .before .before .before .step .ensures) _ _ _ _ (c .before .before .before .before .before .before .before .before .before .before .before .before .before .before .i .given .1) _ (c .before .before .before .before .before .before .before .before .before .before .before .before .before .before .before .before .before .before .before .before .before .before .before .before .before .before .before .before .before .before .before .before .pre .1 .stands)), each-stands _ _ _ _ _ _ _ _ _ _ _ _ _ (rows-settled _ _ _ _ _ _ _ _ _ _ _ _ _ (c .before .before .before .before .before .before .before .before .before .before .before .before .before .before .before .before .before .before .before .before .before .before .before .before .before .before .loop .inv) (c .before .before .before .before .before .before .before .before .before .before .before .before .before .before .before .before .before .before .before .before .before .before .before .before .before .loop-test .taken) (c .before .before .before .before .before .before .before .before .before .before .before .before .before .before .before .before .before .before .before .before .before .before .before .settle .result) _ (c .before .before .before .before .before .before .before .before .before .before .before .before .before .before .before .before .before .before .before .before .before .before .before .settle .ensures) _ (c .before .before .before .before .before .before .before .before .before .before .before .before .before .before .before .before .before .before .before .before .before .k .given .1)) (c .before .before .before .before .before .before .before .before .before .before .before .before .before .before .before .before .before .before .before .if1 .taken) (c .before .before .before .before .before .before .before .before .before .before .before .before .before .before .before .before .step .result) (c .before .before .before .before .before .before .before .before .before .before .before .before .before .before .before .before .step .ensures) _ _ _ _ (c .before .before .before .before .before .before .before .before .before .before .before .before .before .before .i .given .1) _ (c .before .before .before .before .before .before .before .before .before .before .before .before .before .before .before .before .before .before .before .before .before .before .before .before .before .before .before .before .before .before .before .before .pre .1))
+once-each-requires t c κs = (fewer _ _ _ _ _ (c .before .before .before .before .before .before .before .before .before .before .before .before .before .before .before .before .before .before .before .before .before .before .before .before .before .before .before .before .before .before .before .before .before .pre .0) ((rows-settled _ _ _ _ _ _ _ _ _ _ _ _ _ (c .before .before .before .before .before .before .before .before .before .before .before .before .before .before .before .before .before .before .before .before .before .before .before .before .before .before .loop .inv) (c .before .before .before .before .before .before .before .before .before .before .before .before .before .before .before .before .before .before .before .before .before .before .before .before .before .loop-test .taken) (c .before .before .before .before .before .before .before .before .before .before .before .before .before .before .before .before .before .before .before .before .before .before .before .settle .result) _ (c .before .before .before .before .before .before .before .before .before .before .before .before .before .before .before .before .before .before .before .before .before .before .before .settle .ensures) _ (c .before .before .before .before .before .before .before .before .before .before .before .before .before .before .before .before .before .before .before .before .before .k .given .1)) .past) (each-within _ _ _ _ _ _ _ _ _ _ _ _ _ (rows-settled _ _ _ _ _ _ _ _ _ _ _ _ _ (c .before .before .before .before .before .before .before .before .before .before .before .before .before .before .before .before .before .before .before .before .before .before .before .before .before .before .loop .inv) (c .before .before .before .before .before .before .before .before .before .before .before .before .before .before .before .before .before .before .before .before .before .before .before .before .before .loop-test .taken) (c .before .before .before .before .before .before .before .before .before .before .before .before .before .before .before .before .before .before .before .before .before .before .before .settle .result) _ (c .before .before .before .before .before .before .before .before .before .before .before .before .before .before .before .before .before .before .before .before .before .before .before .settle .ensures) _ (c .before .before .before .before .before .before .before .before .before .before .before .before .before .before .before .before .before .before .before .before .before .k .given .1)) (c .before .before .before .before .before .before .before .before .before .before .before .before .before .before .before .before .before .before .before .if1 .taken) (c .before .before .before .before .before .before .before .before .before .before .before .before .before .before .before .before .step .result) (c .before .before .before .before .before .before .before .before .before .before .before .before .before .before .before .before .step .ensures) _ _ _ _ (c .before .before .before .before .before .before .before .before .before .before .before .before .before .before .i .given .1) _ (c .before .before .before .before .before .before .before .before .before .before .before .before .before .before .before .before .before .before .before .before .before .before .before .before .before .before .before .before .before .before .before .before .before .pre .1 .stands)), each-stands _ _ _ _ _ _ _ _ _ _ _ _ _ (rows-settled _ _ _ _ _ _ _ _ _ _ _ _ _ (c .before .before .before .before .before .before .before .before .before .before .before .before .before .before .before .before .before .before .before .before .before .before .before .before .before .before .loop .inv) (c .before .before .before .before .before .before .before .before .before .before .before .before .before .before .before .before .before .before .before .before .before .before .before .before .before .loop-test .taken) (c .before .before .before .before .before .before .before .before .before .before .before .before .before .before .before .before .before .before .before .before .before .before .before .settle .result) _ (c .before .before .before .before .before .before .before .before .before .before .before .before .before .before .before .before .before .before .before .before .before .before .before .settle .ensures) _ (c .before .before .before .before .before .before .before .before .before .before .before .before .before .before .before .before .before .before .before .before .before .k .given .1)) (c .before .before .before .before .before .before .before .before .before .before .before .before .before .before .before .before .before .before .before .if1 .taken) (c .before .before .before .before .before .before .before .before .before .before .before .before .before .before .before .before .step .result) (c .before .before .before .before .before .before .before .before .before .before .before .before .before .before .before .before .step .ensures) _ _ _ _ (c .before .before .before .before .before .before .before .before .before .before .before .before .before .before .i .given .1) _ (c .before .before .before .before .before .before .before .before .before .before .before .before .before .before .before .before .before .before .before .before .before .before .before .before .before .before .before .before .before .before .before .before .before .pre .1))
 
 once-onward-requires-4 : (t : ℕ) → once-lts.Need-onward-requires-4 (once-told t) (once-at t) once.Post once-Inv-loop once-μ-loop
 once-onward-requires-4 t c = search needs
@@ -251,7 +251,7 @@ once-loop-less-9 : (t : ℕ) → once-lts.Need-loop-less-9 (once-told t) (once-a
 once-loop-less-9 t c = ahead-less _ _ _ _ (settled _ _ _ _ _ _ _ _ _ _ _ _ _ (c .before .before .before .before .before .before .before .before .before .before .before .before .before .before .before .before .before .before .before .before .before .before .before .before .before .before .before .before .before .before .before .before .before .before .before .before .before .before .loop .inv) (c .before .before .before .before .before .before .before .before .before .before .before .before .before .before .before .before .before .before .before .before .before .before .before .before .before .before .before .before .before .before .before .before .before .before .before .before .before .loop-test .taken) (c .before .before .before .before .before .before .before .before .before .before .before .before .before .before .before .before .before .before .before .before .before .before .before .before .before .before .before .before .before .before .before .before .before .before .before .settle .result) _ (c .before .before .before .before .before .before .before .before .before .before .before .before .before .before .before .before .before .before .before .before .before .before .before .before .before .before .before .before .before .before .before .before .before .before .before .settle .ensures) _ (c .before .before .before .before .before .before .before .before .before .before .before .before .before .before .before .before .before .before .before .before .before .before .before .before .before .before .before .before .before .before .before .before .before .k .given .1) .ahead) (past-less (c .before .before .before .before .before .before .before .before .before .before .before .each .result .stopped) _ _ _ _ (c .before .before .before .before .before .before .before .before .before .before .before .before .before .before .before .before .before .before .before .before .before .before .before .before .before .before .before .before .before .before .before .if1 .taken) (c .onward4 .ensures))
 
 once-loop-again-9 : (t : ℕ) → once-lts.Need-loop-again-9 (once-told t) (once-at t) once.Post once-Inv-loop once-μ-loop
-once-loop-again-9 t c = rows-each _ _ _ _ _ _ _ _ _ _ _ _ _ (rows-settled _ _ _ _ _ _ _ _ _ _ _ _ _ (c .before .before .before .before .before .before .before .before .before .before .before .before .before .before .before .before .before .before .before .before .before .before .before .before .before .before .before .before .before .before .before .before .before .before .before .before .before .before .loop .inv) (c .before .before .before .before .before .before .before .before .before .before .before .before .before .before .before .before .before .before .before .before .before .before .before .before .before .before .before .before .before .before .before .before .before .before .before .before .before .loop-test .taken) (c .before .before .before .before .before .before .before .before .before .before .before .before .before .before .before .before .before .before .before .before .before .before .before .before .before .before .before .before .before .before .before .before .before .before .before .settle .result) _ (c .before .before .before .before .before .before .before .before .before .before .before .before .before .before .before .before .before .before .before .before .before .before .before .before .before .before .before .before .before .before .before .before .before .before .before .settle .ensures) _ (c .before .before .before .before .before .before .before .before .before .before .before .before .before .before .before .before .before .before .before .before .before .before .before .before .before .before .before .before .before .before .before .before .before .k .given .1)) (c .before .before .before .before .before .before .before .before .before .before .before .before .before .before .before .before .before .before .before .before .before .before .before .before .before .before .before .before .before .before .before .if1 .taken) (c .before .before .before .before .before .before .before .before .before .before .before .before .before .before .before .before .before .before .before .before .before .before .before .before .before .before .before .before .step .result) (c .before .before .before .before .before .before .before .before .before .before .before .before .before .before .before .before .before .before .before .before .before .before .before .before .before .before .before .before .step .ensures) _ _ _ _ (c .before .before .before .before .before .before .before .before .before .before .before .before .before .before .before .before .before .before .before .before .before .before .before .before .before .before .i .given .1) _ (c .before .before .before .before .before .before .before .before .before .before .before .before .before .before .before .before .before .before .before .before .before .before .before .before .before .before .before .before .before .before .before .before .before .before .before .before .before .before .before .before .before .before .before .before .pre .1 .stands) (c .before .before .before .before .before .before .before .before .before .before .before .each .result) _ _ _ (c .before .before .before .before .before .before .before .before .before .before .before .each .ensures) (record { n = c .before .before .before .before .before .before .before .before .before .before .before .each .kept .1 .0; b = c .before .before .before .before .before .before .before .before .before .before .before .each .kept .1 .1 .0; i = c .before .before .before .before .before .before .before .before .before .before .before .each .kept .1 .1 .1 .0; f = c .before .before .before .before .before .before .before .before .before .before .before .each .kept .1 .1 .1 .1 .0; w = c .before .before .before .before .before .before .before .before .before .before .before .each .kept .1 .1 .1 .1 .1 .0; v = c .before .before .before .before .before .before .before .before .before .before .before .each .kept .1 .1 .1 .1 .1 .1 .0 }) _ (c .onward4 .ensures)
+once-loop-again-9 t c = rows-each _ _ _ _ _ _ _ _ _ _ _ _ _ (rows-settled _ _ _ _ _ _ _ _ _ _ _ _ _ (c .before .before .before .before .before .before .before .before .before .before .before .before .before .before .before .before .before .before .before .before .before .before .before .before .before .before .before .before .before .before .before .before .before .before .before .before .before .before .loop .inv) (c .before .before .before .before .before .before .before .before .before .before .before .before .before .before .before .before .before .before .before .before .before .before .before .before .before .before .before .before .before .before .before .before .before .before .before .before .before .loop-test .taken) (c .before .before .before .before .before .before .before .before .before .before .before .before .before .before .before .before .before .before .before .before .before .before .before .before .before .before .before .before .before .before .before .before .before .before .before .settle .result) _ (c .before .before .before .before .before .before .before .before .before .before .before .before .before .before .before .before .before .before .before .before .before .before .before .before .before .before .before .before .before .before .before .before .before .before .before .settle .ensures) _ (c .before .before .before .before .before .before .before .before .before .before .before .before .before .before .before .before .before .before .before .before .before .before .before .before .before .before .before .before .before .before .before .before .before .k .given .1)) (c .before .before .before .before .before .before .before .before .before .before .before .before .before .before .before .before .before .before .before .before .before .before .before .before .before .before .before .before .before .before .before .if1 .taken) (c .before .before .before .before .before .before .before .before .before .before .before .before .before .before .before .before .before .before .before .before .before .before .before .before .before .before .before .before .step .result) (c .before .before .before .before .before .before .before .before .before .before .before .before .before .before .before .before .before .before .before .before .before .before .before .before .before .before .before .before .step .ensures) _ _ _ _ (c .before .before .before .before .before .before .before .before .before .before .before .before .before .before .before .before .before .before .before .before .before .before .before .before .before .before .i .given .1) _ (c .before .before .before .before .before .before .before .before .before .before .before .before .before .before .before .before .before .before .before .before .before .before .before .before .before .before .before .before .before .before .before .before .before .before .before .before .before .before .before .before .before .before .before .before .before .pre .1 .stands) (c .before .before .before .before .before .before .before .before .before .before .before .each .result) _ _ _ (c .before .before .before .before .before .before .before .before .before .before .before .each .ensures) (record { n = c .before .before .before .before .before .before .before .before .before .before .before .each .kept .1 .0; b = c .before .before .before .before .before .before .before .before .before .before .before .each .kept .1 .1 .0; i = c .before .before .before .before .before .before .before .before .before .before .before .each .kept .1 .1 .1 .0; f = c .before .before .before .before .before .before .before .before .before .before .before .each .kept .1 .1 .1 .1 .0; w = c .before .before .before .before .before .before .before .before .before .before .before .each .kept .1 .1 .1 .1 .1 .0; v = c .before .before .before .before .before .before .before .before .before .before .before .each .kept .1 .1 .1 .1 .1 .1 .0 }) _ (c .onward4 .ensures)
 
 once-loop-less-10 : (t : ℕ) → once-lts.Need-loop-less-10 (once-told t) (once-at t) once.Post once-Inv-loop once-μ-loop
 once-loop-less-10 t c = omega (arith, c .before .before .before .before .before .before .loop-test .taken, c .if1 .left)
@@ -312,7 +312,7 @@ pub +each+once-spec : {M : Type 1} → statement M
     (once-loop-again t)
     (once-enum-known-k t)
     (once-mul-word t)
-    (once-element-copy-out-word t)
+    (once-shared-slice-read-word t)
     (once-add-pc t)
     (once-step-requires t)
     (once-enum-known-ask t)

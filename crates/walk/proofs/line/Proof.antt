@@ -4,7 +4,7 @@ use mathlib.Core.Path.{refl}
 use Rattle.reading.specs.Room.{room}
 use Rattle.walk.specs.Cells.{state}
 use Rattle.walk.proofs.Fields.{act-kind, comes-take, comes-derive}
-use Rattle.walk.proofs.Walks.{RowsInv, rows-start, take-fit, rows-take, rows-act, rows-refuse, rows-end, stand-end, on-less}
+use Rattle.walk.proofs.Walks.{RowsInv, rows-start, take-fit, rows-take, rows-act, rows-refuse, rows-end, stand-end, stand-room, on-less}
 use borrow.Author.Needs.{needs}
 use Rattle.walk.proofs.line.Statement.{statement}
 use Rattle.walk.proofs.line.Tie as tie
@@ -26,22 +26,22 @@ abbrev μ-loop : tie.MeasureT-loop
 μ-loop src names₀ blocks₀ indexes₀ firsts₀ widths₀ values₀ table cells₀ bins₀ memo₀ limit from to c₀ pc₀ names blocks indexes firsts widths values cells bins memo c pc = to - pc
 
 loop-holds : tie.Need-loop-holds Inv-loop μ-loop
-loop-holds c = rows-start _ _ _ _ _ _ _ _ _ (c .before .before .before .before .before .pre .0)
+loop-holds c = rows-start _ _ _ _ _ _ _ _ _ (c .before .before .before .before .before .before .pre .0)
 
 mul-word : tie.Need-mul-word Inv-loop μ-loop
-mul-word c = omega (arith, stand-end (c .before .before .before .before .before .before .before .pre .0))
+mul-word c = omega (arith, stand-end (c .before .before .before .before .before .before .before .before .pre .0))
 
-element-copy-out-word : tie.Need-element-copy-out-word Inv-loop μ-loop
-element-copy-out-word c = omega (arith, stand-end (c .before .before .before .before .before .before .before .pre .0))
+shared-slice-read-word : tie.Need-shared-slice-read-word Inv-loop μ-loop
+shared-slice-read-word c = omega (arith, stand-room (c .before .before .before .before .before .before .before .before .before .pre .0))
 
 ask-of-requires : tie.Need-ask-of-requires Inv-loop μ-loop
 ask-of-requires c κs = search needs
 
 take-requires : tie.Need-take-requires Inv-loop μ-loop
-take-requires c κs = take-fit _ _ _ _ _ _ _ _ _ _ _ _ _ (c .before .before .before .before .before .before .before .before .before .before .before .before .loop .inv) (c .before .before .before .before .before .before .before .before .before .before .before .loop-test .taken) _ (comes-take _ _ (c .before .before .before .before .before .before .before .before .before .if1 .taken) _ (c .before .before .before .before .before .before .before .ask-of .ensures)) _ (c .before .before .before .before .before .before .before .before .before .before .before .before .before .before .before .before .before .before .pre .0) _ refl
+take-requires c κs = take-fit _ _ _ _ _ _ _ _ _ _ _ _ _ (c .before .before .before .before .before .before .before .before .before .before .before .before .loop .inv) (c .before .before .before .before .before .before .before .before .before .before .before .loop-test .taken) _ (comes-take _ _ (c .before .before .before .before .before .before .before .before .before .if1 .taken) _ (c .before .before .before .before .before .before .before .ask-of .ensures)) _ (c .before .before .before .before .before .before .before .before .before .before .before .before .before .before .before .before .before .before .before .pre .0) _ refl
 
 add-onward : tie.Need-add-onward Inv-loop μ-loop
-add-onward c = omega (arith, stand-end (c .before .before .before .before .before .before .before .before .before .before .before .before .before .before .before .before .before .before .before .before .before .before .before .before .before .before .before .before .before .pre .0), c .before .before .before .before .before .before .before .before .before .before .before .before .before .before .before .before .before .before .before .before .before .before .loop-test .taken)
+add-onward c = omega (arith, stand-end (c .before .before .before .before .before .before .before .before .before .before .before .before .before .before .before .before .before .before .before .before .before .before .before .before .before .before .before .before .before .before .pre .0), c .before .before .before .before .before .before .before .before .before .before .before .before .before .before .before .before .before .before .before .before .before .before .loop-test .taken)
 
 onward-requires : tie.Need-onward-requires Inv-loop μ-loop
 onward-requires c κs = search needs
@@ -50,7 +50,7 @@ loop-less : tie.Need-loop-less Inv-loop μ-loop
 loop-less c = on-less (c .before .before .before .before .before .before .before .before .before .before .before .take .result .stopped) _ _ _ (c .before .before .before .before .before .before .before .before .before .before .before .before .before .before .before .before .before .before .before .before .before .before .before .loop-test .taken) (c .onward .ensures)
 
 loop-again : tie.Need-loop-again Inv-loop μ-loop
-loop-again c = rows-take _ _ _ _ _ _ _ _ _ _ _ _ _ (c .before .before .before .before .before .before .before .before .before .before .before .before .before .before .before .before .before .before .before .before .before .before .before .before .loop .inv) (c .before .before .before .before .before .before .before .before .before .before .before .before .before .before .before .before .before .before .before .before .before .before .before .loop-test .taken) _ (comes-take _ _ (c .before .before .before .before .before .before .before .before .before .before .before .before .before .before .before .before .before .before .before .before .before .if1 .taken) _ (c .before .before .before .before .before .before .before .before .before .before .before .before .before .before .before .before .before .before .before .ask-of .ensures)) _ (c .before .before .before .before .before .before .before .before .before .before .before .before .before .before .before .before .before .before .before .before .before .before .before .before .before .before .before .before .before .before .pre .0 .stands) _ refl (c .before .before .before .before .before .before .before .before .before .before .before .take .result) _ _ (c .before .before .before .before .before .before .before .before .before .before .before .take .ensures) (record { n = c .before .before .before .before .before .before .before .before .before .before .before .take .kept .1 .0; b = c .before .before .before .before .before .before .before .before .before .before .before .take .kept .1 .1 .0; i = c .before .before .before .before .before .before .before .before .before .before .before .take .kept .1 .1 .1 .0; f = c .before .before .before .before .before .before .before .before .before .before .before .take .kept .1 .1 .1 .1 .0; w = c .before .before .before .before .before .before .before .before .before .before .before .take .kept .1 .1 .1 .1 .1 .0; v = c .before .before .before .before .before .before .before .before .before .before .before .take .kept .1 .1 .1 .1 .1 .1 .0 }) _ (c .onward .ensures)
+loop-again c = rows-take _ _ _ _ _ _ _ _ _ _ _ _ _ (c .before .before .before .before .before .before .before .before .before .before .before .before .before .before .before .before .before .before .before .before .before .before .before .before .loop .inv) (c .before .before .before .before .before .before .before .before .before .before .before .before .before .before .before .before .before .before .before .before .before .before .before .loop-test .taken) _ (comes-take _ _ (c .before .before .before .before .before .before .before .before .before .before .before .before .before .before .before .before .before .before .before .before .before .if1 .taken) _ (c .before .before .before .before .before .before .before .before .before .before .before .before .before .before .before .before .before .before .before .ask-of .ensures)) _ (c .before .before .before .before .before .before .before .before .before .before .before .before .before .before .before .before .before .before .before .before .before .before .before .before .before .before .before .before .before .before .before .pre .0 .stands) _ refl (c .before .before .before .before .before .before .before .before .before .before .before .take .result) _ _ (c .before .before .before .before .before .before .before .before .before .before .before .take .ensures) (record { n = c .before .before .before .before .before .before .before .before .before .before .before .take .kept .1 .0; b = c .before .before .before .before .before .before .before .before .before .before .before .take .kept .1 .1 .0; i = c .before .before .before .before .before .before .before .before .before .before .before .take .kept .1 .1 .1 .0; f = c .before .before .before .before .before .before .before .before .before .before .before .take .kept .1 .1 .1 .1 .0; w = c .before .before .before .before .before .before .before .before .before .before .before .take .kept .1 .1 .1 .1 .1 .0; v = c .before .before .before .before .before .before .before .before .before .before .before .take .kept .1 .1 .1 .1 .1 .1 .0 }) _ (c .onward .ensures)
 
 number-of-requires : tie.Need-number-of-requires Inv-loop μ-loop
 number-of-requires c κs = search needs
@@ -62,7 +62,7 @@ act-requires : tie.Need-act-requires Inv-loop μ-loop
 act-requires c κs = (c .before .before .before .before .before .before .before .before .loop .inv .held, c .before .before .before .before .before .before .before .before .loop .inv .right)
 
 add-pc : tie.Need-add-pc Inv-loop μ-loop
-add-pc c = omega (arith, stand-end (c .before .before .before .before .before .before .before .before .before .before .before .before .before .before .before .pre .0), c .before .before .before .before .before .before .before .before .loop-test .taken)
+add-pc c = omega (arith, stand-end (c .before .before .before .before .before .before .before .before .before .before .before .before .before .before .before .before .pre .0), c .before .before .before .before .before .before .before .before .loop-test .taken)
 
 halted-requires : tie.Need-halted-requires Inv-loop μ-loop
 halted-requires c κs = search needs
@@ -71,13 +71,13 @@ loop-less-2 : tie.Need-loop-less-2 Inv-loop μ-loop
 loop-less-2 c = omega (arith, c .before .before .before .before .before .before .before .before .before .before .loop-test .taken)
 
 loop-again-2 : tie.Need-loop-again-2 Inv-loop μ-loop
-loop-again-2 c = rows-refuse _ _ _ _ _ _ _ _ _ _ _ _ _ (c .before .before .before .before .before .before .before .before .before .before .before .loop .inv) (c .before .before .before .before .before .before .before .before .before .before .loop-test .taken) _ (comes-derive _ _ (act-kind _ (c .before .before .before .before .before .before .before .before .before .before .before .before .before .before .before .before .before .pre .1 .is refl _ (c .before .before .before .before .before .before .before .before .before .before .before .loop .inv .past) (c .before .before .before .before .before .before .before .before .before .before .loop-test .taken)) (c .before .before .before .before .before .before .before .before .if1 .left)) _ _ (c .before .before .before .before .before .before .before .number-of .ensures) (c .before .before .before .before .before .before .x-of .ensures)) _ _ refl _ _ _ (c .before .before .act .ensures) (c .before .if2 .taken) (c .halted .result) (c .halted .ensures)
+loop-again-2 c = rows-refuse _ _ _ _ _ _ _ _ _ _ _ _ _ (c .before .before .before .before .before .before .before .before .before .before .before .loop .inv) (c .before .before .before .before .before .before .before .before .before .before .loop-test .taken) _ (comes-derive _ _ (act-kind _ (c .before .before .before .before .before .before .before .before .before .before .before .before .before .before .before .before .before .before .pre .1 .is refl _ (c .before .before .before .before .before .before .before .before .before .before .before .loop .inv .past) (c .before .before .before .before .before .before .before .before .before .before .loop-test .taken)) (c .before .before .before .before .before .before .before .before .if1 .left)) _ _ (c .before .before .before .before .before .before .before .number-of .ensures) (c .before .before .before .before .before .before .x-of .ensures)) _ _ refl _ _ _ (c .before .before .act .ensures) (c .before .if2 .taken) (c .halted .result) (c .halted .ensures)
 
 loop-less-3 : tie.Need-loop-less-3 Inv-loop μ-loop
 loop-less-3 c = omega (arith, c .before .before .before .before .before .before .before .before .before .loop-test .taken)
 
 loop-again-3 : tie.Need-loop-again-3 Inv-loop μ-loop
-loop-again-3 c = rows-act _ _ _ _ _ _ _ _ _ _ _ _ _ (c .before .before .before .before .before .before .before .before .before .before .loop .inv) (c .before .before .before .before .before .before .before .before .before .loop-test .taken) _ (comes-derive _ _ (act-kind _ (c .before .before .before .before .before .before .before .before .before .before .before .before .before .before .before .before .pre .1 .is refl _ (c .before .before .before .before .before .before .before .before .before .before .loop .inv .past) (c .before .before .before .before .before .before .before .before .before .loop-test .taken)) (c .before .before .before .before .before .before .before .if1 .left)) _ _ (c .before .before .before .before .before .before .number-of .ensures) (c .before .before .before .before .before .x-of .ensures)) _ _ refl _ _ _ (c .before .act .ensures) _ (c .before .before .before .before .before .before .before .before .before .before .before .before .before .before .before .before .pre .0 .stands) (c .if2 .left)
+loop-again-3 c = rows-act _ _ _ _ _ _ _ _ _ _ _ _ _ (c .before .before .before .before .before .before .before .before .before .before .loop .inv) (c .before .before .before .before .before .before .before .before .before .loop-test .taken) _ (comes-derive _ _ (act-kind _ (c .before .before .before .before .before .before .before .before .before .before .before .before .before .before .before .before .before .pre .1 .is refl _ (c .before .before .before .before .before .before .before .before .before .before .loop .inv .past) (c .before .before .before .before .before .before .before .before .before .loop-test .taken)) (c .before .before .before .before .before .before .before .if1 .left)) _ _ (c .before .before .before .before .before .before .number-of .ensures) (c .before .before .before .before .before .x-of .ensures)) _ _ refl _ _ _ (c .before .act .ensures) _ (c .before .before .before .before .before .before .before .before .before .before .before .before .before .before .before .before .before .pre .0 .stands) (c .if2 .left)
 
 same-length : tie.Need-same-length Inv-loop μ-loop
 same-length c = c .before .loop .inv .same .n
@@ -108,7 +108,7 @@ line-spec =
     μ-loop
     loop-holds
     mul-word
-    element-copy-out-word
+    shared-slice-read-word
     ask-of-requires
     take-requires
     add-onward

@@ -1,27 +1,19 @@
-use Rattle.page.proofs.Pages.{reads-more, reads-is, calms-reads, reads-runs, runs-more, runs-is, stands-first, stands-rest, stands-next, stands-guarded}
-use mathlib.Core.Path.{refl, _∙_}
-use native.Mathlib.Omega.{arith}
-use Rattle.walk.specs.Syntax.{_⧺_, size}
-use Rattle.audblk.proofs.Laws.{first-all}
-use Rattle.annex.specs.Annex.{blocks-of, audblks}
+use Rattle.page.proofs.Pages.{calms-reads, reads-runs, runs-more, runs-is}
+use mathlib.Core.Path.{refl}
+use Rattle.walk.specs.Syntax.{_⧺_}
+use Rattle.annex.specs.Annex.{audblks}
 use borrow.Author.Needs.{needs}
 use Rattle.audblk.proofs.turns.audblks.Statement.{statement}
 use Rattle.audblk.proofs.turns.audblks.Tie as tie
-use Rattle.audblk.proofs.turns.audblks.Reads as reads
-use Rattle.audblk.proofs.turns.audblks.Lts as lts
-use Rattle.audblk.proofs.mark.Reads as mark-reads
-use Rattle.audblk.proofs.turns.each_block.Reads as each-block-reads
-use Rattle.page.proofs.set.Reads as set-reads
 
 each-block-requires : tie.Need-each-block-requires
-unfolding audblks size _⧺_
-each-block-requires c κs = record { stands = first-all _ blocks-of _ _ _ 628 (c .before .before .before .before .before .before .before .before .before .before .before .before .before .before .pre .stands) refl; table = c .before .before .before .before .before .before .before .before .before .before .before .before .before .before .pre .table; within = c .before .before .before .before .before .before .before .before .before .before .before .before .before .before .pre .within; held = c .before .before .before .before .before .before .before .before .before .before .before .before .before .before .pre .held; right = c .before .before .before .before .before .before .before .before .before .before .before .before .before .before .pre .right }
+each-block-requires c κs = record { within = c .before .before .before .before .before .before .before .before .before .before .before .before .before .before .pre .within; held = c .before .before .before .before .before .before .before .before .before .before .before .before .before .before .pre .held; right = c .before .before .before .before .before .before .before .before .before .before .before .before .before .before .pre .right }
 
 set-requires : tie.Need-set-requires
 set-requires c κs = search needs
 
-cast-t34 : tie.Need-cast-t34
-cast-t34 c = search needs
+cast-t33 : tie.Need-cast-t33
+cast-t33 c = search needs
 
 mark-requires : tie.Need-mark-requires
 mark-requires c κs = search needs
@@ -54,7 +46,7 @@ audblks-spec =
     (tie.spec
     each-block-requires
     set-requires
-    cast-t34
+    cast-t33
     mark-requires
     same-length
     same-length-2

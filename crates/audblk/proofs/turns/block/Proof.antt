@@ -1,19 +1,14 @@
-use Rattle.audblk.proofs.Laws.{guarded-all, runs-on, runs-off}
+use Rattle.page.proofs.Turns.{runs-on, runs-off}
 use Rattle.annex.specs.Annex.{block-of}
 use borrow.Author.Needs.{needs}
 use Rattle.audblk.proofs.turns.block.Statement.{statement}
 use Rattle.audblk.proofs.turns.block.Tie as tie
-use Rattle.audblk.proofs.turns.block.Reads as reads
-use Rattle.audblk.proofs.turns.block.Lts as lts
-use Rattle.audblk.proofs.audblk.Reads as audblk-reads
-use Rattle.audblk.proofs.turns.over.Reads as over-reads
 
 over-requires : tie.Need-over-requires
 over-requires c κs = search needs
 
 audblk-requires : tie.Need-audblk-requires
-unfolding block-of
-audblk-requires c κs = record { stands = guarded-all _ _ _ _ _ (c .before .before .before .before .before .before .before .before .before .before .before .before .before .before .before .before .before .pre .stands); table = c .before .before .before .before .before .before .before .before .before .before .before .before .before .before .before .before .before .pre .table; within = c .before .before .before .before .before .before .before .before .before .before .before .before .before .before .before .before .before .pre .within; held = c .before .before .before .before .before .before .before .before .before .before .before .before .before .before .before .before .before .pre .held; right = c .before .before .before .before .before .before .before .before .before .before .before .before .before .before .before .before .before .pre .right }
+audblk-requires c κs = record { within = c .before .before .before .before .before .before .before .before .before .before .before .before .before .before .before .before .before .pre .within; held = c .before .before .before .before .before .before .before .before .before .before .before .before .before .before .before .before .before .pre .held; right = c .before .before .before .before .before .before .before .before .before .before .before .before .before .before .before .before .before .pre .right }
 
 same-length : tie.Need-same-length
 same-length c = search needs

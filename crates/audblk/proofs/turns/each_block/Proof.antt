@@ -1,5 +1,5 @@
 use mathlib.Core.Path.{refl}
-use Rattle.audblk.proofs.Laws.{RunInv, run-start, run-on, run-end, repeated-all}
+use Rattle.page.proofs.Turns.{RunInv, run-start, run-on, run-end}
 use native.Mathlib.Omega.{arith}
 use Prim.Native.Nat.{_-_}
 use Rattle.annex.specs.Annex.{block-of, blocks-of}
@@ -8,17 +8,13 @@ use Rattle.walk.specs.Cells.{state}
 use borrow.Author.Needs.{needs}
 use Rattle.audblk.proofs.turns.each_block.Statement.{statement}
 use Rattle.audblk.proofs.turns.each_block.Tie as tie
-use Rattle.audblk.proofs.turns.each_block.Reads as reads
-use Rattle.audblk.proofs.turns.each_block.Lts as lts
-use Rattle.audblk.proofs.turns.block.Reads as block-reads
-use Rattle.walk.proofs.cells.put.Reads as put-reads
 
 abbrev Inv-loop : tie.InvT-loop
-Inv-loop src names₀ blocks₀ indexes₀ firsts₀ widths₀ values₀ table cells₀ bins₀ memo₀ limit at₀ blk₀ names blocks indexes firsts widths values cells bins memo at blk =
+Inv-loop src names₀ blocks₀ indexes₀ firsts₀ widths₀ values₀ cells₀ bins₀ memo₀ limit at₀ blk₀ names blocks indexes firsts widths values cells bins memo at blk =
     RunInv src (limit .0) block-of 6 2 at₀ (state cells₀ bins₀) (room names₀ blocks₀ indexes₀ firsts₀ widths₀ values₀) at (state cells bins) (room names blocks indexes firsts widths values) memo blk
 
 abbrev μ-loop : tie.MeasureT-loop
-μ-loop src names₀ blocks₀ indexes₀ firsts₀ widths₀ values₀ table cells₀ bins₀ memo₀ limit at₀ blk₀ names blocks indexes firsts widths values cells bins memo at blk = 6 - blk
+μ-loop src names₀ blocks₀ indexes₀ firsts₀ widths₀ values₀ cells₀ bins₀ memo₀ limit at₀ blk₀ names blocks indexes firsts widths values cells bins memo at blk = 6 - blk
 
 loop-holds : tie.Need-loop-holds Inv-loop μ-loop
 loop-holds c = run-start _ _ _ _ _ _ _ _ _ (c .before .before .before .before .before .pre .held) (c .before .before .before .before .before .pre .right)
@@ -27,8 +23,7 @@ put-requires : tie.Need-put-requires Inv-loop μ-loop
 put-requires c κs = search needs
 
 block-requires : tie.Need-block-requires Inv-loop μ-loop
-unfolding blocks-of
-block-requires c κs = record { stands = repeated-all _ _ _ _ _ _ _ (c .before .before .before .before .before .before .before .before .before .before .before .before .before .before .before .before .before .before .pre .stands); table = c .before .before .before .before .before .before .before .before .before .before .before .before .before .before .before .before .before .before .pre .table; within = c .before .before .before .before .before .before .before .before .before .before .before .before .before .before .before .before .before .before .pre .within; held = c .before .before .before .before .before .before .before .before .before .before .before .before .loop .inv .held; right = c .before .before .before .before .before .before .before .before .before .before .before .before .loop .inv .right }
+block-requires c κs = record { within = c .before .before .before .before .before .before .before .before .before .before .before .before .before .before .before .before .before .before .pre .within; held = c .before .before .before .before .before .before .before .before .before .before .before .before .loop .inv .held; right = c .before .before .before .before .before .before .before .before .before .before .before .before .loop .inv .right }
 
 add-blk : tie.Need-add-blk Inv-loop μ-loop
 add-blk c = search needs

@@ -4,9 +4,6 @@ use Rattle.page.proofs.Pages.{held-cell}
 use borrow.Author.Needs.{needs}
 use Rattle.audblk.proofs.turns.over.Statement.{statement}
 use Rattle.audblk.proofs.turns.over.Tie as tie
-use Rattle.audblk.proofs.turns.over.Reads as reads
-use Rattle.audblk.proofs.turns.over.Lts as lts
-use Rattle.walk.proofs.cells.cell_of.Reads as cell-of-reads
 
 cell-of-requires : tie.Need-cell-of-requires
 cell-of-requires c κs = search needs

@@ -2,10 +2,6 @@ use mathlib.Core.Path.{refl}
 use borrow.Author.Needs.{needs}
 use Rattle.eac3.proofs.answer.answer_of.Statement.{statement}
 use Rattle.eac3.proofs.answer.answer_of.Tie as tie
-use Rattle.eac3.proofs.answer.answer_of.Reads as reads
-use Rattle.eac3.proofs.answer.answer_of.Lts as lts
-use Rattle.eac3.proofs.answer.frame_of.Reads as frame-of-reads
-use Rattle.eac3.proofs.answer.none.Reads as none-reads
 
 none-requires : tie.Need-none-requires
 none-requires c κs = search needs

@@ -2,13 +2,6 @@ use mathlib.Core.Path.{refl}
 use borrow.Author.Needs.{needs}
 use Rattle.eac3.proofs.answer.frame_of.Statement.{statement}
 use Rattle.eac3.proofs.answer.frame_of.Tie as tie
-use Rattle.eac3.proofs.answer.frame_of.Reads as reads
-use Rattle.eac3.proofs.answer.frame_of.Lts as lts
-use Rattle.bits.proofs.BitPlace.bytes.Reads as bytes-reads
-use Rattle.walk.proofs.cells.cell_of.Reads as cell-of-reads
-use Rattle.walk.proofs.shapes.flag.Reads as flag-reads
-use Rattle.walk.proofs.shapes.seven_flags.Reads as seven-flags-reads
-use Rattle.walk.proofs.shapes.six_values.Reads as six-values-reads
 
 bytes-requires : tie.Need-bytes-requires
 bytes-requires c κs = search needs

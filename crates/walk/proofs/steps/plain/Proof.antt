@@ -2,7 +2,7 @@ use mathlib.Core.Bool.{true}
 use native.Mathlib.Omega.{arith}
 use Prim.Native.Nat.{_-_}
 use Rattle.walk.specs.Calm.{Plain}
-use Rattle.walk.proofs.Settling.{standing-end, all-start, all-more, all-end, not-all}
+use Rattle.walk.proofs.Settling.{standing-end, standing-room, all-start, all-more, all-end, not-all}
 use Rattle.walk.proofs.steps.plain.Statement.{statement}
 use Rattle.walk.proofs.steps.plain.Tie as tie
 use Rattle.walk.proofs.steps.plain.Reads as reads
@@ -20,8 +20,8 @@ loop-holds c = all-start _ _
 mul-if1 : tie.Need-mul-if1 Inv-loop μ-loop
 mul-if1 c = omega (arith, standing-end (c .before .before .pre))
 
-element-copy-out-if1 : tie.Need-element-copy-out-if1 Inv-loop μ-loop
-element-copy-out-if1 c = omega (arith, standing-end (c .before .before .pre))
+shared-slice-read-if1 : tie.Need-shared-slice-read-if1 Inv-loop μ-loop
+shared-slice-read-if1 c = omega (arith, standing-room (c .before .before .before .pre))
 
 returns : tie.Need-returns Inv-loop μ-loop
 returns c = not-all _ _ _
@@ -46,7 +46,7 @@ plain-spec =
     μ-loop
     loop-holds
     mul-if1
-    element-copy-out-if1
+    shared-slice-read-if1
     returns
     add-k
     loop-less

@@ -4,7 +4,7 @@ use Prim.Native.Nat.{_-_}
 use mathlib.Core.Path.{sym, _∙_}
 use borrow.Author.Tests.{not-false}
 use Rattle.walk.specs.Calm.{Hushed}
-use Rattle.walk.proofs.Settling.{standing-end, all-start, all-more, all-end, not-all}
+use Rattle.walk.proofs.Settling.{standing-end, standing-room, all-start, all-more, all-end, not-all}
 use borrow.Author.Needs.{needs}
 use Rattle.walk.proofs.steps.quiet.Statement.{statement}
 use Rattle.walk.proofs.steps.quiet.Tie as tie
@@ -22,10 +22,10 @@ loop-holds : tie.Need-loop-holds Inv-loop μ-loop
 loop-holds c = all-start _ _
 
 mul-still : tie.Need-mul-still Inv-loop μ-loop
-mul-still c = omega (arith, standing-end (c .before .before .pre))
+mul-still c = omega (arith, standing-end (c .before .before .before .pre))
 
-element-copy-out-still : tie.Need-element-copy-out-still Inv-loop μ-loop
-element-copy-out-still c = omega (arith, standing-end (c .before .before .pre))
+shared-slice-read-still : tie.Need-shared-slice-read-still Inv-loop μ-loop
+shared-slice-read-still c = omega (arith, standing-room (c .before .before .before .before .pre))
 
 still-requires : tie.Need-still-requires Inv-loop μ-loop
 still-requires c κs = search needs
@@ -34,7 +34,7 @@ returns : tie.Need-returns Inv-loop μ-loop
 returns c = not-all _ _ _
 
 add-k : tie.Need-add-k Inv-loop μ-loop
-add-k c = omega (arith, standing-end (c .before .before .before .before .before .pre))
+add-k c = omega (arith, standing-end (c .before .before .before .before .before .before .pre))
 
 loop-less : tie.Need-loop-less Inv-loop μ-loop
 loop-less c = omega arith
@@ -53,7 +53,7 @@ quiet-spec =
     μ-loop
     loop-holds
     mul-still
-    element-copy-out-still
+    shared-slice-read-still
     still-requires
     returns
     add-k

@@ -4,7 +4,7 @@ use Prim.Native.Nat.{_-_}
 use borrow.Author.Tests.{not-true, not-false}
 use Rattle.walk.specs.Calm.{Leads}
 use Rattle.walk.proofs.Fields.{not-still}
-use Rattle.walk.proofs.Settling.{standing-end, leads-start, leads-when, leads-past, leads-put, leads-kept, leads-refused}
+use Rattle.walk.proofs.Settling.{standing-end, standing-room, leads-start, leads-when, leads-past, leads-put, leads-kept, leads-refused}
 use borrow.Author.Needs.{needs}
 use Rattle.walk.proofs.steps.settle.Statement.{statement}
 use Rattle.walk.proofs.steps.settle.Tie as tie
@@ -22,16 +22,16 @@ abbrev μ-loop : tie.MeasureT-loop
 μ-loop table cells₀ from to here pc₀ cells pc = to - pc
 
 loop-holds : tie.Need-loop-holds Inv-loop μ-loop
-loop-holds c = leads-start _ _ _ _ _ (c .pre)
+loop-holds c = leads-start _ _ _ _ _ (c .before .pre)
 
 mul-w : tie.Need-mul-w Inv-loop μ-loop
-mul-w c = omega (arith, standing-end (c .before .before .pre))
+mul-w c = omega (arith, standing-end (c .before .before .before .pre))
 
-element-copy-out-w : tie.Need-element-copy-out-w Inv-loop μ-loop
-element-copy-out-w c = omega (arith, standing-end (c .before .before .pre))
+shared-slice-read-w : tie.Need-shared-slice-read-w Inv-loop μ-loop
+shared-slice-read-w c = omega (arith, standing-room (c .before .before .before .before .pre))
 
 add-pc : tie.Need-add-pc Inv-loop μ-loop
-add-pc c = omega (arith, standing-end (c .before .before .before .before .pre))
+add-pc c = omega (arith, standing-end (c .before .before .before .before .before .pre))
 
 tests-requires : tie.Need-tests-requires Inv-loop μ-loop
 tests-requires c κs = search needs
@@ -43,31 +43,31 @@ cast-pc : tie.Need-cast-pc Inv-loop μ-loop
 cast-pc c = search needs
 
 add-pc-2 : tie.Need-add-pc-2 Inv-loop μ-loop
-add-pc-2 c = omega (arith, standing-end (c .before .before .before .before .before .before .before .before .pre), leads-past _ _ _ _ _ (c .before .before .before .before .before .before .before .before .pre) _ _ (c .before .before .before .before .before .before .before .loop .inv) (c .before .before .before .before .before .before .loop-test .taken) _ refl (c .before .before .before .before .if1 .taken) _ (c .before .before .tests .ensures) (not-true _ (c .before .if2 .taken)) _ (c .y-of .ensures) .within)
+add-pc-2 c = omega (arith, standing-end (c .before .before .before .before .before .before .before .before .before .pre), leads-past _ _ _ _ _ (c .before .before .before .before .before .before .before .before .before .pre) _ _ (c .before .before .before .before .before .before .before .loop .inv) (c .before .before .before .before .before .before .loop-test .taken) _ refl (c .before .before .before .before .if1 .taken) _ (c .before .before .tests .ensures) (not-true _ (c .before .if2 .taken)) _ (c .y-of .ensures) .within)
 
 loop-less : tie.Need-loop-less Inv-loop μ-loop
 loop-less c = omega arith
 
 loop-again : tie.Need-loop-again Inv-loop μ-loop
-loop-again c = leads-past _ _ _ _ _ (c .before .before .before .before .before .before .before .before .pre) _ _ (c .before .before .before .before .before .before .before .loop .inv) (c .before .before .before .before .before .before .loop-test .taken) _ refl (c .before .before .before .before .if1 .taken) _ (c .before .before .tests .ensures) (not-true _ (c .before .if2 .taken)) _ (c .y-of .ensures)
+loop-again c = leads-past _ _ _ _ _ (c .before .before .before .before .before .before .before .before .before .pre) _ _ (c .before .before .before .before .before .before .before .loop .inv) (c .before .before .before .before .before .before .loop-test .taken) _ refl (c .before .before .before .before .if1 .taken) _ (c .before .before .tests .ensures) (not-true _ (c .before .if2 .taken)) _ (c .y-of .ensures)
 
 loop-less-2 : tie.Need-loop-less-2 Inv-loop μ-loop
 loop-less-2 c = omega arith
 
 loop-again-2 : tie.Need-loop-again-2 Inv-loop μ-loop
-loop-again-2 c = leads-when _ _ _ _ _ (c .before .before .before .before .before .before .before .pre) _ _ (c .before .before .before .before .before .before .loop .inv) (c .before .before .before .before .before .loop-test .taken) _ refl (c .before .before .before .if1 .taken) _ (c .before .tests .ensures) (not-false _ (c .if2 .left))
+loop-again-2 c = leads-when _ _ _ _ _ (c .before .before .before .before .before .before .before .before .pre) _ _ (c .before .before .before .before .before .before .loop .inv) (c .before .before .before .before .before .loop-test .taken) _ refl (c .before .before .before .if1 .taken) _ (c .before .tests .ensures) (not-false _ (c .if2 .left))
 
 set-requires : tie.Need-set-requires Inv-loop μ-loop
 set-requires c κs = search needs
 
 add-pc-3 : tie.Need-add-pc-3 Inv-loop μ-loop
-add-pc-3 c = omega (arith, standing-end (c .before .before .before .before .before .before .before .pre))
+add-pc-3 c = omega (arith, standing-end (c .before .before .before .before .before .before .before .before .pre))
 
 loop-less-3 : tie.Need-loop-less-3 Inv-loop μ-loop
 loop-less-3 c = omega arith
 
 loop-again-3 : tie.Need-loop-again-3 Inv-loop μ-loop
-loop-again-3 c = leads-put _ _ _ _ _ (c .before .before .before .before .before .before .before .pre) _ _ (c .before .before .before .before .before .before .loop .inv) (c .before .before .before .before .before .loop-test .taken) _ refl (c .before .before .if3 .taken) _ (c .set .ensures)
+loop-again-3 c = leads-put _ _ _ _ _ (c .before .before .before .before .before .before .before .before .pre) _ _ (c .before .before .before .before .before .before .loop .inv) (c .before .before .before .before .before .loop-test .taken) _ refl (c .before .before .if3 .taken) _ (c .set .ensures)
 
 tests-requires-2 : tie.Need-tests-requires-2 Inv-loop μ-loop
 tests-requires-2 c κs = search needs
@@ -76,16 +76,16 @@ number-of-requires : tie.Need-number-of-requires Inv-loop μ-loop
 number-of-requires c κs = search needs
 
 returns : tie.Need-returns Inv-loop μ-loop
-returns c = leads-refused _ _ _ _ _ (c .before .before .before .before .before .before .before .before .before .before .pre) _ _ (c .before .before .before .before .before .before .before .before .before .loop .inv) (c .before .before .before .before .before .before .before .before .loop-test .taken) _ refl (c .before .before .before .before .if4 .taken) _ (c .before .before .tests2 .ensures) (c .before .if5 .taken) _ (c .number-of .ensures)
+returns c = leads-refused _ _ _ _ _ (c .before .before .before .before .before .before .before .before .before .before .before .pre) _ _ (c .before .before .before .before .before .before .before .before .before .loop .inv) (c .before .before .before .before .before .before .before .before .loop-test .taken) _ refl (c .before .before .before .before .if4 .taken) _ (c .before .before .tests2 .ensures) (c .before .if5 .taken) _ (c .number-of .ensures)
 
 add-pc-4 : tie.Need-add-pc-4 Inv-loop μ-loop
-add-pc-4 c = omega (arith, standing-end (c .before .before .before .before .before .before .before .before .before .pre))
+add-pc-4 c = omega (arith, standing-end (c .before .before .before .before .before .before .before .before .before .before .pre))
 
 loop-less-4 : tie.Need-loop-less-4 Inv-loop μ-loop
 loop-less-4 c = omega arith
 
 loop-again-4 : tie.Need-loop-again-4 Inv-loop μ-loop
-loop-again-4 c = leads-kept _ _ _ _ _ (c .before .before .before .before .before .before .before .before .before .pre) _ _ (c .before .before .before .before .before .before .before .before .loop .inv) (c .before .before .before .before .before .before .before .loop-test .taken) _ refl (c .before .before .before .if4 .taken) _ (c .before .tests2 .ensures) (c .if5 .left)
+loop-again-4 c = leads-kept _ _ _ _ _ (c .before .before .before .before .before .before .before .before .before .before .pre) _ _ (c .before .before .before .before .before .before .before .before .loop .inv) (c .before .before .before .before .before .before .before .loop-test .taken) _ refl (c .before .before .before .if4 .taken) _ (c .before .tests2 .ensures) (c .if5 .left)
 
 returns-2 : tie.Need-returns-2 Inv-loop μ-loop
 returns-2 c = record { is = (c .before .before .before .before .before .loop .inv, λ _. not-still _ (c .before .before .if1 .left) (c .before .if3 .left) (c .if4 .left)) }
@@ -101,7 +101,7 @@ settle-spec =
     μ-loop
     loop-holds
     mul-w
-    element-copy-out-w
+    shared-slice-read-w
     add-pc
     tests-requires
     y-of-requires

@@ -22,7 +22,7 @@ put-requires : tie.Need-put-requires Inv-loop μ-loop
 put-requires c κs = search needs
 
 settle-requires : tie.Need-settle-requires Inv-loop μ-loop
-settle-requires c κs = c .before .before .before .before .before .pre .0
+settle-requires c κs = c .before .before .before .before .before .before .pre .0
 
 enum-known-number : tie.Need-enum-known-number Inv-loop μ-loop
 enum-known-number c = search needs
@@ -40,7 +40,7 @@ loop-less : tie.Need-loop-less Inv-loop μ-loop
 loop-less c = omega arith
 
 loop-again : tie.Need-loop-again Inv-loop μ-loop
-loop-again c = stir-on _ _ _ _ _ _ _ _ _ _ (c .before .before .before .before .before .before .before .loop .inv) (c .before .before .before .before .before .before .loop-test .taken) _ (c .before .before .before .before .put .ensures) _ (c .before .before .settle .result) (c .before .before .settle .ensures) _ (c .enum-told .given .1) (c .before .before .before .before .before .before .before .before .pre .1)
+loop-again c = stir-on _ _ _ _ _ _ _ _ _ _ (c .before .before .before .before .before .before .before .loop .inv) (c .before .before .before .before .before .before .loop-test .taken) _ (c .before .before .before .before .put .ensures) _ (c .before .before .settle .result) (c .before .before .settle .ensures) _ (c .enum-told .given .1) (c .before .before .before .before .before .before .before .before .before .pre .1)
 
 returns-2 : tie.Need-returns-2 Inv-loop μ-loop
 returns-2 c = stir-end _ _ _ _ _ _ _ _ _ _ (c .before .loop .inv) (c .loop-test .left) _

@@ -1,0 +1,14 @@
+use lib.Dec.{eqb}
+use mathlib.Core.Path.{ap}
+use borrow.Author.Needs.{needs}
+use Rattle.page.proofs.is_at.Statement.{statement}
+use Rattle.page.proofs.is_at.Tie as tie
+
+held-requires : tie.Need-held-requires
+held-requires c κs = search needs
+
+returns : tie.Need-returns
+returns c = ap (λ x. eqb x (c .before .args .v)) (c .held .ensures)
+
+pub is-at-spec : {M : Type 1} → statement M
+is-at-spec = tie.close (tie.spec held-requires returns)
