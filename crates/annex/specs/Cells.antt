@@ -1,4 +1,4 @@
--- The cells of the table of Annex E, beside those of the derivations (crate walk, specs/CellNames). A name with a number in brackets
+-- The cells of Annex E, beside those of the derivations (crate walk, specs/CellNames). A name with a number in brackets
 -- is the first of so many cells.
 use Prim.Native.Nat.{ℕ}
 

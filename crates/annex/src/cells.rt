@@ -1,5 +1,5 @@
-// The cells of the table, as numbers of its rows. specs/Cells and specs/CellNames of crate walk say what each holds; that the numbers are theirs is
-// computed with the table.
+// The cells, as numbers for pages and rows. specs/Cells and specs/CellNames of crate walk say what each holds; that the
+// numbers are theirs is seen where they are used.
 use walk::notation::BY;
 use walk::notation::INDEX;
 use walk::notation::INDEX_BY;
@@ -344,7 +344,3 @@ pub const BY_SLOT: u64 = BY * SLOT;
 pub const BY_SUB: u64 = BY * SUB;
 
 pub const OF_BLK: u64 = OF_BY * BLK;
-
-pub const OF_CH: u64 = OF_BY * CH;
-
-pub const OF_POS: u64 = OF_BY * POS;

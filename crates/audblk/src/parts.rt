@@ -185,7 +185,7 @@ pub fn spx_bands(
     cur
 }
 
-// Those of each channel that is in it.
+// Spectral extension coordinates of each channel that is in it.
 pub fn spx_coordinates_of(
     src: &[u8],
     names: &mut [u8],
@@ -269,7 +269,7 @@ pub fn cpl_use(
     cur
 }
 
-// Those of each channel that is coupled, and the phase flags.
+// Coupling coordinates of each channel that is coupled, and the phase flags.
 pub fn cpl_coordinates_of(
     src: &[u8],
     names: &mut [u8],
@@ -311,7 +311,7 @@ pub fn cpl_coordinates_of(
     cur
 }
 
-// The flags of a stereo block.
+// Rematrixing flags of a stereo block.
 pub fn rematrixing_bands(
     src: &[u8],
     names: &mut [u8],

@@ -85,7 +85,7 @@ pub const SPX_BANDS: [u64; 21] = [
     ELEMENT + NAME * n::SPXBNDSTRC as u64 + BITS * 1 + AT_BND + CELL * c::SPXBNDSTRC + BY_BND,
 ];
 
-// Those of each channel that is in it.
+// Spectral extension coordinates of each channel that is in it.
 pub const SPX_COORDINATES_OF: [u64; 20] = [
     LET + CELL * c::SPX_BLOCKS + ADD * 1 + TIMES * 1 + OF * c::SPX_BLOCKS,
     LET + CELL * c::NSPXBNDS + ADD * 1,
@@ -152,7 +152,7 @@ pub const CPL_USE: [u64; 39] = [
     LET + CELL * c::PHSFLGINU,
 ];
 
-// Those of each channel that is coupled, and the phase flags.
+// Coupling coordinates of each channel that is coupled, and the phase flags.
 pub const CPL_COORDINATES_OF: [u64; 24] = [
     LET + CELL * c::CPL_BLOCKS + ADD * 1 + TIMES * 1 + OF * c::CPL_BLOCKS,
     EACH_FIXED + COUNTER * c::CH + UPTO * 5 + ROWS * 1,
@@ -180,7 +180,7 @@ pub const CPL_COORDINATES_OF: [u64; 24] = [
     ELEMENT + NAME * n::PHSFLG as u64 + BITS * 1 + AT_BND,
 ];
 
-// The flags of a stereo block.
+// Rematrixing flags of a stereo block.
 pub const REMATRIXING_BANDS: [u64; 17] = [
     WHEN_IS + CELL * c::BLK + VALUE * 0 + ROWS * 1,
     LET + CELL * c::REMATSTR + ADD * 1,

@@ -13,6 +13,7 @@ ghost use Rattle.walk.specs.declared.table.Count.the-variants.{Fixed, Held};
 ghost use Rattle.annex.specs.Cells.{BLK, CH, CONVEXPSTRE, EXPSTRE, NUMBLKSCOD, SNROFFSTSTR, STRMTYP};
 ghost use Rattle.annex.specs.Audfrm.{expstre-sent, expstre-known, strategy-flags, block-flags, field-flags, frame-flags, cplblk-counted, ncplblks-by, flags as flagsOf, cplexpstr-by, chexpstr-by, expstr-by, block-strategies, lfeexpstr-by, lfe-strategies, convexpstr-by, conv-codes, conv-strategies, strategies as strategiesOf, hybrid as hybridOf, fsnroffst-by, snroffsts, offsets as offsetsOf, audfrm as audfrmOf};
 ghost use Rattle.page.specs.Page.{Reads, Runs, Calms, Ready};
+use annex::acts;
 use annex::cells as c;
 use bits::BitPlace;
 use names::numbers as n;
@@ -440,7 +441,7 @@ pub fn flags(
     ensures { λ r. ⌜ Runs (now (src .entry)) (limit .0) flagsOf cur (state (now (cells .entry)) (now (bins .entry))) (room (now (names .entry)) (now (blocks .entry)) (now (indexes .entry)) (now (firsts .entry)) (now (widths .entry)) (now (values .entry)))
         r (state (now (cells .exit)) (now (bins .exit))) (room (now (names .exit)) (now (blocks .exit)) (now (indexes .exit)) (now (firsts .exit)) (now (widths .exit)) (now (values .exit))) (now (memo .exit)) ⌝ }
 {
-    let a = derive(cells, bins, memo, cur, 3);
+    let a = derive(cells, bins, memo, cur, acts::FRESH);
     let b = strategy_flags(
         src,
         names,
