@@ -14,17 +14,19 @@ use Rattle.annex.specs.Audblk.{audblk}
 unfoldable pub header : Block
 header = syncinfo
 
--- each of the six blocks that the frame has
+-- a block, if the frame has it
 unfoldable pub block-of : Block
 block-of =
     when (Over (cell NUMBLKS) (cell BLK)) audblk
     ⨾ end
 
+-- each of six
 unfoldable pub blocks-of : Block
 blocks-of =
     each BLK (from 0) (Fixed 6) block-of
     ⨾ end
 
+-- the blocks, and where the audio ends
 unfoldable pub audblks : Block
 audblks =
     blocks-of

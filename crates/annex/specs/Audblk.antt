@@ -49,20 +49,20 @@ dynamics =
     ⨾ when (Is (cell ACMOD) 0) second-dynamics
     ⨾ end
 
--- spectral extension strategy: the sub-bands of E.2.3
+-- a channel that is not in spectral extension; its next coordinates are sent without asking
 unfoldable pub no-spx-channel : Block
 no-spx-channel =
     put (at CHINSPX CH) (Let 0 0 no)
     ⨾ put (at FIRSTSPXCOS CH) (Let 1 0 no)
     ⨾ end
 
--- and none for any channel
+-- and so for every channel
 unfoldable pub no-spx : Block
 no-spx =
     each CH (from 0) (Fixed 5) no-spx-channel
     ⨾ end
 
--- the channels in spectral extension, its range and its bands
+-- spectral extension strategy: the channels, and the sub-bands of E.2.3
 unfoldable pub spx-bands : Block
 spx-bands =
     when (Is (cell ACMOD) 1)
@@ -658,7 +658,7 @@ skip-field =
     ⨾ end)
     ⨾ end
 
--- delta bit allocation and the skip field. All codes come before the first segments
+-- delta bit allocation and the skip field
 unfoldable pub deltas : Block
 deltas =
     when (Is (cell DBAFLDE) 1) delta-segments

@@ -68,7 +68,7 @@ loudness =
     ⨾ end)
     ⨾ end
 
--- dialogue level and compression of the second channel of two
+-- dialogue level and compression of the second programme
 unfoldable pub dual-mono : Block
 dual-mono =
     element dialnorm2 none 5 no
@@ -78,7 +78,7 @@ dual-mono =
     ⨾ end)
     ⨾ end
 
--- those of the second programme of two
+-- and those of the second programme, in dual mono
 unfoldable pub loudness2 : Block
 loudness2 =
     when (Is (cell ACMOD) 0) dual-mono
@@ -93,11 +93,13 @@ chanmaps =
     ⨾ end)
     ⨾ end
 
+-- sent in dependent substreams
 unfoldable pub channels : Block
 channels =
     when (Is (cell STRMTYP) 1) chanmaps
     ⨾ end
 
+-- bsi up to the mixing metadata
 unfoldable pub bsi-head : Block
 bsi-head = rates ⧺ loudness ⧺ loudness2 ⧺ channels
 

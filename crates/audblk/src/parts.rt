@@ -143,7 +143,7 @@ pub fn second_dynamics(
     cur
 }
 
-// The channels in spectral extension, its range and its bands.
+// Spectral extension strategy: the channels, and the sub-bands.
 pub fn spx_bands(
     src: &[u8],
     names: &mut [u8],

@@ -60,7 +60,7 @@ pub const SECOND_DYNAMICS: [u64; 3] = [
     ELEMENT + NAME * n::DYNRNG2 as u64 + BITS * 8,
 ];
 
-// The channels in spectral extension, its range and its bands.
+// Spectral extension strategy: the channels, and the sub-bands.
 pub const SPX_BANDS: [u64; 21] = [
     WHEN_IS + CELL * c::ACMOD + VALUE * 1 + ROWS * 1,
     LET + CELL * c::CHINSPX + ADD * 1,

@@ -13,7 +13,7 @@ use bits::BitPlace;
 use page::rows_on;
 use syntax::Cursor;
 
-// Dialogue level and compression of the second channel of two.
+// Dialogue level and compression of the second programme, in dual mono.
 pub fn dual_mono(
     src: &[u8],
     names: &mut [u8],

@@ -26,7 +26,7 @@ use walk::notation::WHEN_IS;
 use walk::notation::WHEN_NOT;
 use walk::notation::WHEN_ODD;
 
-// Dialogue level and compression of the second channel of two.
+// Dialogue level and compression of the second programme, in dual mono.
 pub const DUAL_MONO: [u64; 4] = [
     ELEMENT + NAME * n::DIALNORM2 as u64 + BITS * 5,
     ELEMENT + NAME * n::COMPR2E as u64 + BITS * 1 + CELL * c::COMPR2E,
