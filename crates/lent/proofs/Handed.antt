@@ -1,5 +1,5 @@
 -- What the thin functions over a `Reader` have in common. Such a function takes the struct apart and hands the slice, the place and its other parameters on to a covered function, whose contract says the same.
---     recording, recording-vals, recording-tells        the parameters beside the struct of a function that records, and how their machine values are told
+--     recording, recording-vals, recording-tells        the parameters beside the struct of a function that records, and how their machine values are outcome
 --     left-on, lefts       of each parameter a function has at exit what its callee says of it;        lefts-fit, lefts-go        what the prover owes of that, and the law
 --     Thin, Full           such a function's signature, and its callee's: `rest` are the other parameters
 --     answered             what a callee leaves, taken apart

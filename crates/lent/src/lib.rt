@@ -9,7 +9,7 @@ ghost use mathlib.Core.Path.{_≡_};
 ghost use Prim.Native.Nat.{_*_, _≤_};
 ghost use lib.ListN.{length};
 ghost use Rattle.reading.specs.Room.{room};
-ghost use Rattle.syntax.specs.Records.{told, seen, readOf, spanOf, rawOf, closeOf};
+ghost use Rattle.syntax.specs.Records.{outcome, seen, readOf, spanOf, rawOf, closeOf};
 ghost use Rattle.lent.specs.Labels.{partOf};
 
 pub struct Reader<'a> {
@@ -61,7 +61,7 @@ pub fn read_at(
     width: u16,
 ) -> Taken
     requires { ⌜ (width ≤ 32) × (limit .0 ≤ 8 * length (now src)) ⌝ }
-    ensures { λ t. ⌜ told (t .cursor) (t .value) (room (now (names .exit)) (now (blocks .exit)) (now (indexes .exit)) (now (firsts .exit)) (now (widths .exit)) (now (values .exit)))
+    ensures { λ t. ⌜ outcome (t .cursor) (t .value) (room (now (names .exit)) (now (blocks .exit)) (now (indexes .exit)) (now (firsts .exit)) (now (widths .exit)) (now (values .exit)))
         ≡ readOf (now (src .entry)) (limit .0) (partOf label) width (at .0) count (room (now (names .entry)) (now (blocks .entry)) (now (indexes .entry)) (now (firsts .entry)) (now (widths .entry)) (now (values .entry))) ⌝ }
 {
     syntax::read(
@@ -96,7 +96,7 @@ pub fn read<'a>(
     width: u16,
 ) -> Taken
     requires { ⌜ (width ≤ 32) × (limit .0 ≤ 8 * length (now (r .src))) ⌝ }
-    ensures { λ t. ⌜ told (t .cursor) (t .value) (room (now (names .exit)) (now (blocks .exit)) (now (indexes .exit)) (now (firsts .exit)) (now (widths .exit)) (now (values .exit)))
+    ensures { λ t. ⌜ outcome (t .cursor) (t .value) (room (now (names .exit)) (now (blocks .exit)) (now (indexes .exit)) (now (firsts .exit)) (now (widths .exit)) (now (values .exit)))
         ≡ readOf (now (r .entry .src)) (limit .0) (partOf label) width (r .entry .at .0) count (room (now (names .entry)) (now (blocks .entry)) (now (indexes .entry)) (now (firsts .entry)) (now (widths .entry)) (now (values .entry))) ⌝ }
 {
     read_at(
@@ -129,7 +129,7 @@ pub fn span_at(
     label: Label,
     width: u16,
 ) -> Cursor
-    ensures { λ t. ⌜ told t 0 (room (now (names .exit)) (now (blocks .exit)) (now (indexes .exit)) (now (firsts .exit)) (now (widths .exit)) (now (values .exit)))
+    ensures { λ t. ⌜ outcome t 0 (room (now (names .exit)) (now (blocks .exit)) (now (indexes .exit)) (now (firsts .exit)) (now (widths .exit)) (now (values .exit)))
         ≡ spanOf (now (src .entry)) (limit .0) (partOf label) width (at .0) count (room (now (names .entry)) (now (blocks .entry)) (now (indexes .entry)) (now (firsts .entry)) (now (widths .entry)) (now (values .entry))) ⌝ }
 {
     syntax::span(
@@ -162,7 +162,7 @@ pub fn span<'a>(
     label: Label,
     width: u16,
 ) -> Cursor
-    ensures { λ t. ⌜ told t 0 (room (now (names .exit)) (now (blocks .exit)) (now (indexes .exit)) (now (firsts .exit)) (now (widths .exit)) (now (values .exit)))
+    ensures { λ t. ⌜ outcome t 0 (room (now (names .exit)) (now (blocks .exit)) (now (indexes .exit)) (now (firsts .exit)) (now (widths .exit)) (now (values .exit)))
         ≡ spanOf (now (r .entry .src)) (limit .0) (partOf label) width (r .entry .at .0) count (room (now (names .entry)) (now (blocks .entry)) (now (indexes .entry)) (now (firsts .entry)) (now (widths .entry)) (now (values .entry))) ⌝ }
 {
     span_at(
@@ -195,7 +195,7 @@ pub fn close_at(
     label: Label,
 ) -> Cursor
     requires { ⌜ first .0 ≤ at .0 ⌝ }
-    ensures { λ t. ⌜ told t 0 (room (now (names .exit)) (now (blocks .exit)) (now (indexes .exit)) (now (firsts .exit)) (now (widths .exit)) (now (values .exit)))
+    ensures { λ t. ⌜ outcome t 0 (room (now (names .exit)) (now (blocks .exit)) (now (indexes .exit)) (now (firsts .exit)) (now (widths .exit)) (now (values .exit)))
         ≡ closeOf (partOf label) (first .0) (at .0) count (room (now (names .entry)) (now (blocks .entry)) (now (indexes .entry)) (now (firsts .entry)) (now (widths .entry)) (now (values .entry))) ⌝ }
 {
     syntax::close(
@@ -227,7 +227,7 @@ pub fn close<'a>(
     label: Label,
 ) -> Cursor
     requires { ⌜ first .0 ≤ r .at .0 ⌝ }
-    ensures { λ t. ⌜ told t 0 (room (now (names .exit)) (now (blocks .exit)) (now (indexes .exit)) (now (firsts .exit)) (now (widths .exit)) (now (values .exit)))
+    ensures { λ t. ⌜ outcome t 0 (room (now (names .exit)) (now (blocks .exit)) (now (indexes .exit)) (now (firsts .exit)) (now (widths .exit)) (now (values .exit)))
         ≡ closeOf (partOf label) (first .0) (r .entry .at .0) count (room (now (names .entry)) (now (blocks .entry)) (now (indexes .entry)) (now (firsts .entry)) (now (widths .entry)) (now (values .entry))) ⌝ }
 {
     close_at(
@@ -261,7 +261,7 @@ pub fn element(
     width: u16,
 ) -> Taken
     requires { ⌜ (width ≤ 32) × (limit .0 ≤ 8 * length (now src)) ⌝ }
-    ensures { λ t. ⌜ told (t .cursor) (t .value) (room (now (names .exit)) (now (blocks .exit)) (now (indexes .exit)) (now (firsts .exit)) (now (widths .exit)) (now (values .exit)))
+    ensures { λ t. ⌜ outcome (t .cursor) (t .value) (room (now (names .exit)) (now (blocks .exit)) (now (indexes .exit)) (now (firsts .exit)) (now (widths .exit)) (now (values .exit)))
         ≡ readOf (now (src .entry)) (limit .0) (partOf label) width (at .0) count (room (now (names .entry)) (now (blocks .entry)) (now (indexes .entry)) (now (firsts .entry)) (now (widths .entry)) (now (values .entry))) ⌝ }
 {
     read(

@@ -1,22 +1,19 @@
 -- Laws of a whole frame: its records tile and tell their bits; two buffers that agree below bit d split at d. Assumes nothing.
-use mathlib.Core.Path.{_≡_, refl, ap, sym, _∙_, subst}
-use mathlib.Core.Bool.{Bool, true, false, cond}
+use mathlib.Core.Path.{_≡_, refl, ap, _∙_, subst}
 use mathlib.Core.List.{List, [], _∷_, _++_, map}
 use mathlib.Core.Logic.{by-cases, _⊎_, inl, inr}
 use mathlib.Core.Option.{some}
 use Prim.Native.Nat.{ℕ, zero, suc, _+_, _*_, _-_, _≤_, _<_}
 use native.Mathlib.Omega.{arith}
 use native.Mathlib.Decide.{decLt}
-use lib.Dec.{leb}
 use lib.ListN.{length, getElem?}
 use borrow.Author.Tests.{le-leb}
 use Rattle.bits.specs.Bits.{bitsAt, SameBits}
-use Rattle.reading.specs.Tree.{Tree}
-use Rattle.reading.specs.Run.{Field, Entry, end, Result, accepted, refused, Outcome, out, andThen, after, run}
-use Rattle.reading.specs.Records.{All, Tiles, Tiled, Whole, Told}
+use Rattle.reading.specs.Run.{Field, Entry, end, Result, accepted, refused, Outcome, andThen, after, run}
+use Rattle.reading.specs.Records.{All, Tiled, Valued}
 use Rattle.reading.specs.Frame.{Format, Announces, auxdataeAt, tail, finish, framed, sized, parse}
 use Rattle.reading.specs.CommonReading.{Holds, list, Excepted, Stand}
-use Rattle.reading.proofs.Laws.{tiled, told, tiled-after, told-after}
+use Rattle.reading.proofs.Laws.{tiled, valued, tiled-after, valued-after}
 use Rattle.reading.proofs.Lockstep.{Past, Side, Split, Common, same, split, side-prefix, side-map, beyond, reading, agree-bits, side-after}
 use Rattle.reading.proofs.Tails.{LateOrAux, tail-late, finish-ends}
 
@@ -65,15 +62,15 @@ module _ {H A : Type 0} (F : Format H A) where
   pub whole-tiled : (b : List ℕ) → Tiled 0 (whole b)
   whole-tiled b = tiled-after (run (F .header) b 0 48) _ (framed-tiled b) (tiled (F .header) b 0 48)
 
-  framed-told : (b : List ℕ) (h : H) (p : ℕ) → All (Told b) (framed F b h p .records)
+  framed-claims : (b : List ℕ) (h : H) (p : ℕ) → All (Valued b) (framed F b h p .records)
   unfolding framed finish
-  framed-told b h p =
-      told-after b (run (F .body h) b p (8 * F .bytes h)) _
-      (λ a p. told (tail (F .names) (bitsAt b (auxdataeAt (8 * F .bytes h)) 1) (8 * F .bytes h) a) b p (8 * F .bytes h))
-      (told (F .body h) b p (8 * F .bytes h))
+  framed-claims b h p =
+      valued-after b (run (F .body h) b p (8 * F .bytes h)) _
+      (λ a p. valued (tail (F .names) (bitsAt b (auxdataeAt (8 * F .bytes h)) 1) (8 * F .bytes h) a) b p (8 * F .bytes h))
+      (valued (F .body h) b p (8 * F .bytes h))
 
-  pub whole-told : (b : List ℕ) → All (Told b) (whole b .records)
-  whole-told b = told-after b (run (F .header) b 0 48) _ (framed-told b) (told (F .header) b 0 48)
+  pub whole-valued : (b : List ℕ) → All (Valued b) (whole b .records)
+  whole-valued b = valued-after b (run (F .header) b 0 48) _ (framed-claims b) (valued (F .header) b 0 48)
 
   -- an accepted frame ends where its buffer announces
   pub whole-ends : Announces F → (b : List ℕ) (c : A) → whole b .result ≡ accepted c → whole b .place ≡ 8 * F .announced b

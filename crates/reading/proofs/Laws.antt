@@ -1,17 +1,15 @@
--- Laws of every run: places only grow, the records tile, elements tell their bits, records lie within the run, the place stays within the limit.
+-- Laws of every run: places only grow, the records tile, elements tell their bits, records lie within the run, an accepted run stays within the limit.
 -- Assumes nothing.
-use mathlib.Core.Path.{_≡_, refl, ap, sym, _∙_}
+use mathlib.Core.Path.{_≡_, refl}
 use mathlib.Core.Bool.{Bool, true, false, not, cond, true≢false}
 use mathlib.Core.List.{List, [], _∷_, _++_}
-use mathlib.Core.Logic.{by-cases}
-use Prim.Native.Nat.{ℕ, _+_, _-_, _≤_, _<_}
+use Prim.Native.Nat.{ℕ, _+_, _-_, _≤_}
 use native.Mathlib.Omega.{arith}
-use native.Mathlib.Decide.{decLt}
 use lib.Dec.{leb, T, leb→le}
 use Rattle.bits.specs.Bits.{bitsAt}
-use Rattle.reading.specs.Tree.{Skim, stop, fail, at, take, Tree, done, refuse, here, read, span, scan}
+use Rattle.reading.specs.Tree.{Skim, stop, fail, at, take, Tree, done, refuse, ahead, here, read, span, scan}
 use Rattle.reading.specs.Run.{Entry, end, Result, accepted, refused, Outcome, out, cons, skim, run, after, andThen}
-use Rattle.reading.specs.Records.{All, Tiles, Whole, Tiled, Told}
+use Rattle.reading.specs.Records.{All, Tiles, Whole, Tiled, Valued}
 
 -- a test, in any predicate of what it chooses between: two outcomes, two trees
 pub test : {A : Type 0} (P : Outcome A → Type 0) (c : Bool) {o u : Outcome A} → (T c → P o) → (T (not c) → P u) → P (cond c o u)
@@ -51,6 +49,7 @@ pub grows : {A : Type 0} (t : Tree A) (b : List ℕ) (p l : ℕ) → p ≤ run t
 unfolding run
 grows (done a) b p l = omega arith
 grows (refuse n) b p l = omega arith
+grows (ahead n w) b p l = omega arith
 grows (here k) b p l = grows (k p) b p l
 grows (read q w k) b p l =
     test (λ o. p ≤ o .place) (leb (p + w) l) (λ _. omega (arith, grows (k (bitsAt b p w)) b (p + w) l)) (λ _. omega arith)
@@ -90,6 +89,7 @@ pub tiled : {A : Type 0} (t : Tree A) (b : List ℕ) (p l : ℕ) → Tiled p (ru
 unfolding run
 tiled (done a) b p l = record { upto = p; tiles = refl; whole = refl }
 tiled (refuse n) b p l = tiled-stop n p p (omega arith)
+tiled (ahead n w) b p l = tiled-stop n p (p + w) (omega arith)
 tiled (here k) b p l = tiled (k p) b p l
 tiled (read r w k) b p l =
     test (Tiled p) (leb (p + w) l) (λ _. tiled-cons _ refl (tiled (k (bitsAt b p w)) b (p + w) l)) (λ _. tiled-stop 8 p p (omega arith))
@@ -99,17 +99,18 @@ tiled (scan r s k) b p l =
     (λ v e h. tiled-cons _ refl (let i : p + (e - p) ≡ e = omega arith in rw i (tiled (k v) b e l)))
     (λ n e h. tiled-stop n p e h)
 
-pub told : {A : Type 0} (t : Tree A) (b : List ℕ) (p l : ℕ) → All (Told b) (run t b p l .records)
+pub valued : {A : Type 0} (t : Tree A) (b : List ℕ) (p l : ℕ) → All (Valued b) (run t b p l .records)
 unfolding run
-told (done a) b p l = tt
-told (refuse n) b p l = tt
-told (here k) b p l = told (k p) b p l
-told (read q w k) b p l =
-    test (λ o. All (Told b) (o .records)) (leb (p + w) l) (λ _. (λ _. refl, told (k (bitsAt b p w)) b (p + w) l)) (λ _. tt)
-told (span q w t) b p l =
-    test (λ o. All (Told b) (o .records)) (leb (p + w) l) (λ _. (λ e. absurd (true≢false e), told t b (p + w) l)) (λ _. tt)
-told (scan q s k) b p l =
-    after-skim (λ o. All (Told b) (o .records)) (skim s b p l) _ (skimmed s b p l) (λ v e h. (λ c. absurd (true≢false c), told (k v) b e l)) (λ n e h. tt)
+valued (done a) b p l = tt
+valued (refuse n) b p l = tt
+valued (ahead n w) b p l = tt
+valued (here k) b p l = valued (k p) b p l
+valued (read q w k) b p l =
+    test (λ o. All (Valued b) (o .records)) (leb (p + w) l) (λ _. (λ _. refl, valued (k (bitsAt b p w)) b (p + w) l)) (λ _. tt)
+valued (span q w t) b p l =
+    test (λ o. All (Valued b) (o .records)) (leb (p + w) l) (λ _. (λ e. absurd (true≢false e), valued t b (p + w) l)) (λ _. tt)
+valued (scan q s k) b p l =
+    after-skim (λ o. All (Valued b) (o .records)) (skim s b p l) _ (skimmed s b p l) (λ v e h. (λ c. absurd (true≢false c), valued (k v) b e l)) (λ n e h. tt)
 
 pub tiled-after : {A B : Type 0} {q : ℕ} (o : Outcome A) (f : A → ℕ → Outcome B) → ((a : A) (p : ℕ) → Tiled p (f a p)) → Tiled q o → Tiled q (after o f)
 unfolding after
@@ -125,13 +126,13 @@ tiled-after {A} {B} {q} o f k s = go (o .result) (s .whole)
         }
     go (refused n) w = record { upto = s .upto; tiles = s .tiles; whole = w }
 
-pub told-after : {A B : Type 0} (b : List ℕ) (o : Outcome A) (f : A → ℕ → Outcome B) → ((a : A) (p : ℕ) → All (Told b) (f a p .records))
-    → All (Told b) (o .records) → All (Told b) (after o f .records)
+pub valued-after : {A B : Type 0} (b : List ℕ) (o : Outcome A) (f : A → ℕ → Outcome B) → ((a : A) (p : ℕ) → All (Valued b) (f a p .records))
+    → All (Valued b) (o .records) → All (Valued b) (after o f .records)
 unfolding after
-told-after {A} b o f k s = go (o .result)
+valued-after {A} b o f k s = go (o .result)
   where
-    go : (r : Result A) → All (Told b) (andThen r (o .place) (o .records) f .records)
-    go (accepted a) = all-append (Told b) (o .records) (f a (o .place) .records) s (k a (o .place))
+    go : (r : Result A) → All (Valued b) (andThen r (o .place) (o .records) f .records)
+    go (accepted a) = all-append (Valued b) (o .records) (f a (o .place) .records) s (k a (o .place))
     go (refused n) = s
 
 -- each record that `run` makes begins at or after the place that it starts from, and ends at or before the place that it comes to
@@ -148,30 +149,36 @@ within {A} t b p l = all-map (o .records) (λ e k. (k .0, omega (arith, short (o
     short (accepted a) h = omega arith
     short (refused n) h = h
 
--- the place stays within the limit
-skim-inside : {A : Type 0} (s : Skim A) (b : List ℕ) (p l : ℕ) → p ≤ l → skim s b p l .place ≤ l
+-- where a run is accepted its place is within the limit; a refusal ahead may lie past it
+abbrev pub Inside : {A : Type 0} → ℕ → Result A → ℕ → Type 0
+Inside l (accepted a) p = p ≤ l
+Inside l (refused n) p = Unit {0}
+
+skim-inside : {A : Type 0} (s : Skim A) (b : List ℕ) (p l : ℕ) → p ≤ l → Inside l (skim s b p l .result) (skim s b p l .place)
 unfolding skim
 skim-inside (stop a) b p l h = h
-skim-inside (fail n) b p l h = h
+skim-inside (fail n) b p l h = tt
 skim-inside (at k) b p l h = skim-inside (k p) b p l h
 skim-inside (take w k) b p l h =
-    test (λ o. o .place ≤ l) (leb (p + w) l) (λ c. skim-inside (k (bitsAt b p w)) b (p + w) l (leb→le (p + w) l c)) (λ _. h)
+    test (λ o. Inside l (o .result) (o .place)) (leb (p + w) l) (λ c. skim-inside (k (bitsAt b p w)) b (p + w) l (leb→le (p + w) l c)) (λ _. tt)
 
-pub after-inside : {A B : Type 0} (o : Outcome A) (f : A → ℕ → Outcome B) (l : ℕ) → o .place ≤ l → ((a : A) (p : ℕ) → p ≤ l → f a p .place ≤ l)
-    → after o f .place ≤ l
+pub after-inside : {A B : Type 0} (o : Outcome A) (f : A → ℕ → Outcome B) (l : ℕ) → Inside l (o .result) (o .place)
+    → ((a : A) (p : ℕ) → p ≤ l → Inside l (f a p .result) (f a p .place)) → Inside l (after o f .result) (after o f .place)
 unfolding after
-after-inside {A} o f l h k = go (o .result)
+after-inside {A} o f l h k = go (o .result) h
   where
-    go : (r : Result A) → andThen r (o .place) (o .records) f .place ≤ l
-    go (accepted a) = k a (o .place) h
-    go (refused n) = h
+    go : (r : Result A) → Inside l r (o .place) → let u = andThen r (o .place) (o .records) f in Inside l (u .result) (u .place)
+    go (accepted a) h = k a (o .place) h
+    go (refused n) h = tt
 
-pub inside : {A : Type 0} (t : Tree A) (b : List ℕ) (p l : ℕ) → p ≤ l → run t b p l .place ≤ l
+pub inside : {A : Type 0} (t : Tree A) (b : List ℕ) (p l : ℕ) → p ≤ l → Inside l (run t b p l .result) (run t b p l .place)
 unfolding run
 inside (done a) b p l h = h
-inside (refuse n) b p l h = h
+inside (refuse n) b p l h = tt
+inside (ahead n w) b p l h = tt
 inside (here k) b p l h = inside (k p) b p l h
 inside (read q w k) b p l h =
-    test (λ o. o .place ≤ l) (leb (p + w) l) (λ c. inside (k (bitsAt b p w)) b (p + w) l (leb→le (p + w) l c)) (λ _. h)
-inside (span q w t) b p l h = test (λ o. o .place ≤ l) (leb (p + w) l) (λ c. inside t b (p + w) l (leb→le (p + w) l c)) (λ _. h)
+    test (λ o. Inside l (o .result) (o .place)) (leb (p + w) l) (λ c. inside (k (bitsAt b p w)) b (p + w) l (leb→le (p + w) l c)) (λ _. tt)
+inside (span q w t) b p l h =
+    test (λ o. Inside l (o .result) (o .place)) (leb (p + w) l) (λ c. inside t b (p + w) l (leb→le (p + w) l c)) (λ _. tt)
 inside (scan q s k) b p l h = after-inside (skim s b p l) _ l (skim-inside s b p l h) (λ v e i. inside (k v) b e l i)

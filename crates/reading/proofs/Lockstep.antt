@@ -9,7 +9,7 @@ use native.Mathlib.Decide.{decLe}
 use lib.Dec.{leb}
 use Rattle.bits.specs.Bits.{bitsAt, SameBits}
 use Rattle.bits.proofs.BitLaws.{bitsAt-cong}
-use Rattle.reading.specs.Tree.{Skim, stop, fail, at, take, Tree, done, refuse, here, read, span, scan}
+use Rattle.reading.specs.Tree.{Skim, stop, fail, at, take, Tree, done, refuse, ahead, here, read, span, scan}
 use Rattle.reading.specs.Run.{Entry, end, Result, accepted, refused, Outcome, out, cons, prefix, andThen, after, skim, run}
 use Rattle.reading.specs.Records.{All}
 use Rattle.reading.proofs.Laws.{all-map, all-append, test, skimmed, after-skim}
@@ -70,6 +70,7 @@ pub beyond : {A : Type 0} (t : Tree A) (b : List ℕ) (d p l : ℕ) → d < p �
 unfolding run
 beyond (done a) b d p l h = record { rest = []; is = refl; late = tt; stands = h }
 beyond (refuse n) b d p l h = side-stop n p h
+beyond (ahead n w) b d p l h = side-stop n (p + w) (omega arith)
 beyond (here k) b d p l h = beyond (k p) b d p l h
 beyond (read q w k) b d p l h =
     test (Side (Past d) d []) (leb (p + w) l)
@@ -139,6 +140,8 @@ module _ (x y : List ℕ) (d : ℕ) (agree : SameBits x y 0 d) where
   unfolding run
   reading (done a) p l h = same refl h
   reading (refuse n) p l h = same refl h
+  reading (ahead n w) p l h =
+      by-cases (decLe (p + w) d) (λ i. same refl i) (λ i. apart (side-stop n (p + w) (omega arith)) (side-stop n (p + w) (omega arith)))
   reading (here k) p l h = reading (k p) p l h
   reading (read q w k) p l h =
       common-test (leb (p + w) l) 8 p h

@@ -3,7 +3,7 @@
 use mathlib.Core.Path.{_≡_, refl, ap, sym, _∙_}
 use mathlib.Core.Bool.{Bool, true, false, cond}
 use mathlib.Core.List.{List, [], _∷_}
-use Prim.Native.Nat.{ℕ, zero, suc, _+_, _-_, _≤_, _<_}
+use Prim.Native.Nat.{ℕ, zero, suc, _+_, _-_, _≤_}
 use native.Mathlib.Omega.{arith}
 use native.Mathlib.Nat.{add-zero}
 use lib.Dec.{leb}
@@ -12,7 +12,7 @@ use lib.ListN.{length, length-set, getD}
 use lib.Seq.{getD-set-other}
 use borrow.Author.Tests.{leb-true, leb-false}
 use Rattle.bits.specs.Bits.{bitsAt}
-use Rattle.reading.specs.Tree.{Tree, done, refuse, here, read, span, scan, _>>=_}
+use Rattle.reading.specs.Tree.{Tree, done, refuse, ahead, here, read, span, scan, _>>=_}
 use Rattle.reading.specs.Run.{Field, Entry, element, region, Result, accepted, refused, Outcome, out, cons, andThen, after, skim, run}
 use Rattle.reading.specs.Room.{cutAt, cut, Room, size, pushed, fill, Out, got, into, record-in, skimmed-by, exec}
 use Rattle.reading.proofs.Laws.{Skimmed, skimmed}
@@ -69,6 +69,7 @@ module _ (s : List ℕ) (l : ℕ) where
   unfolding exec _>>=_ go-on
   exec-bind (done a) f p n m = refl
   exec-bind (refuse k) f p n m = refl
+  exec-bind (ahead k w) f p n m = refl
   exec-bind (here k) f p n m = exec-bind (k p) f p n m
   exec-bind (read q w k) f p n m =
       then-test (leb (p + w) l) n 8 p m _ _ _ (then-room (leb (size m) n) n 33 p m _ _ _ (exec-bind (k (bitsAt s p w)) f (p + w) (n + 1) _))
@@ -127,6 +128,7 @@ pub exec-is : {A : Type 0} (s : List ℕ) (l : ℕ) (t : Tree A) (p n : ℕ) (m 
 unfolding exec run
 exec-is s l (done a) p n m = into-none (accepted a) p (size m - n) n m
 exec-is s l (refuse k) p n m = into-none (refused k) p (size m - n) n m
+exec-is s l (ahead k w) p n m = into-none (refused k) (p + w) (size m - n) n m
 exec-is s l (here k) p n m = exec-is s l (k p) p n m
 exec-is s l (read q w k) p n m =
     into-test (leb (p + w) l) 8 p (size m - n) n m _ _

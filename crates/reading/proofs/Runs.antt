@@ -5,7 +5,7 @@ use mathlib.Core.List.{List, [], _∷_, _++_, append-assoc}
 use Prim.Native.Nat.{ℕ, _+_}
 use lib.Dec.{leb}
 use Rattle.bits.specs.Bits.{bitsAt}
-use Rattle.reading.specs.Tree.{Tree, done, refuse, here, read, span, scan, _>>=_}
+use Rattle.reading.specs.Tree.{Tree, done, refuse, ahead, here, read, span, scan, _>>=_}
 use Rattle.reading.specs.Run.{Entry, Result, accepted, refused, Outcome, out, cons, prefix, andThen, after, skim, run}
 
 pub after-cons : {A B : Type 0} (e : Entry) (o : Outcome A) (f : A → ℕ → Outcome B) (u : Outcome B)
@@ -48,6 +48,7 @@ pub run-bind : {A B : Type 0} (t : Tree A) (g : A → Tree B) (b : List ℕ) (p 
 unfolding run _>>=_
 run-bind (done a) g b p l = after-out (accepted a) p [] _
 run-bind {B} (refuse n) g b p l = after-out {B = B} (refused n) p [] _
+run-bind {B} (ahead n w) g b p l = after-out {B = B} (refused n) (p + w) [] _
 run-bind (here k) g b p l = run-bind (k p) g b p l
 run-bind (read q w k) g b p l = after-test (leb (p + w) l) 8 p _ _ _ (after-cons _ _ _ _ (run-bind (k (bitsAt b p w)) g b (p + w) l))
 run-bind (span q w t) g b p l = after-test (leb (p + w) l) 8 p _ _ _ (after-cons _ _ _ _ (run-bind t g b (p + w) l))

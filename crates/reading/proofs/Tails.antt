@@ -1,29 +1,19 @@
 -- Laws of the tail. Assumes nothing.
 use mathlib.Core.Path.{_≡_, refl, subst}
-use mathlib.Core.Bool.{Bool, true, false, not, cond}
+use mathlib.Core.Bool.{not}
 use mathlib.Core.List.{List, []}
 use mathlib.Core.Logic.{_⊎_, inl, inr}
 use Prim.Native.Nat.{ℕ, _+_, _-_, _≤_, _<_}
 use native.Mathlib.Omega.{arith}
-use lib.Dec.{leb, eqb, T, leb→le, nleb→lt}
+use lib.Dec.{leb, eqb, leb→le, nleb→lt}
 use Rattle.bits.specs.Bits.{bitsAt}
 use Rattle.reading.specs.Tree.{Tree, read, done}
-use Rattle.reading.specs.Run.{Entry, end, region, Result, accepted, refused, Outcome, out, cons, after, skim, run}
-use Rattle.reading.specs.Frame.{TailNames, plain, ahead, ending, auxdataeAt, tail, finish}
+use Rattle.reading.specs.Run.{Entry, end, Result, accepted, refused, Outcome, run}
+use Rattle.reading.specs.Frame.{TailNames, plain, ending, auxdataeAt, tail, finish}
 use Rattle.reading.proofs.Laws.{test, choice}
 use Rattle.reading.proofs.Lockstep.{Side, side-stop, side-new, side-map, beyond}
 
 ruleset tests = (arith, leb→le, nleb→lt)
-
--- a property of what `ahead` answers
-pub ahead-case : {A : Type 0} (P : Outcome A → Type 0) (b : List ℕ) (p w n l : ℕ) → P (out (refused n) (p + w) []) → (l < p + w → P (out (refused 8) p []))
-    → P (run (ahead w n) b p l)
-unfolding ahead run skim after
-ahead-case {A} P b p w n l f g = go (leb (p + w) l) (λ i. g (nleb→lt (p + w) l i))
-  where
-    go : (c : Bool) → (T (not c) → P (out (refused 8) p [])) → P (after {A = List ℕ} (cond c (out (refused n) (p + w) []) (out (refused 8) p [])) (λ v e. cons (region (plain 0) p (e - p)) (out (refused n) e [])))
-    go true g = f
-    go false g = g tt
 
 module _ (names : TailNames) where
   -- auxbits and auxdatal
@@ -43,9 +33,6 @@ module _ (names : TailNames) where
       (λ _. side-new _ (inl (omega arith)) (step (read (plain (names .reserved)) 1 (λ _. read (plain (names .crc2)) 16 (λ _. done a))) b d (q + 1) l (omega arith)))
       (λ f. side-stop 8 q (omega tests))
 
-  ahead-late : {A : Type 0} (b : List ℕ) (p w n l d : ℕ) → p + w ≤ l → d < p + w → Side {A = A} (LateOrAux d) d [] (run (ahead w n) b p l)
-  ahead-late {A} b p w n l d h k = ahead-case (Side {A = A} (LateOrAux d) d []) b p w n l (side-stop n (p + w) k) (λ f. side-stop 8 p (omega arith))
-
   -- what the tail records, but for auxbits and auxdatal, ends after the bit auxdatae, and it does not stop before that
   pub tail-late : {A : Type 0} (b : List ℕ) (v : ℕ) (a : A) (p l d : ℕ) → p + 18 ≤ l → d + 18 ≤ l → Side (LateOrAux d) d [] (run (tail names v l a) b p l)
   unfolding tail run
@@ -59,10 +46,10 @@ module _ (names : TailNames) where
       (λ _. side-new _ (inr (inr refl))
       (choice (λ t. S (run t b (p + (l - 32 - p) + 14) l)) (leb (bitsAt b (p + (l - 32 - p)) 14) (l - 32 - p))
       (λ _. ending-late b a (p + (l - 32 - p) + 14) l d (omega tests) (omega tests))
-      (λ _. ahead-late b (p + (l - 32 - p) + 14) 1 32 l d (omega tests) (omega tests))))
+      (λ _. side-stop 32 (p + (l - 32 - p) + 14 + 1) (omega tests))))
       (λ g. side-stop 8 (p + (l - 32 - p)) (omega tests))))
       (λ g. side-stop 8 p (omega tests)))
-      (λ f. ahead-late b p (auxdataeAt l - p + 1) 31 l d (omega tests) (omega tests)))
+      (λ f. side-stop 31 (p + (auxdataeAt l - p + 1)) (omega tests)))
       (λ _. test S (leb (p + (auxdataeAt l - p)) l)
       (λ _. side-new _ (inr (inl refl)) (ending-late b a (p + (auxdataeAt l - p)) l d (omega arith) (omega arith)))
       (λ g. side-stop 8 p (omega tests))))
@@ -98,10 +85,10 @@ module _ (names : TailNames) where
       (λ _. test S (leb (p + (l - 32 - p) + 14) l)
       (λ _. choice (λ t. S (run t b (p + (l - 32 - p) + 14) l)) (leb (bitsAt b (p + (l - 32 - p)) 14) (l - 32 - p))
       (λ _. ending-ends b a p (p + (l - 32 - p) + 14) l (omega tests) (omega tests))
-      (λ _. ahead-case S b (p + (l - 32 - p) + 14) 1 32 l tt (λ _. tt)))
       (λ _. tt))
       (λ _. tt))
-      (λ f. ahead-case S b p (auxdataeAt l - p + 1) 31 l tt (λ _. tt)))
+      (λ _. tt))
+      (λ f. tt))
       (λ _. test S (leb (p + (auxdataeAt l - p)) l) (λ _. ending-ends b a p (p + (auxdataeAt l - p)) l (omega tests) (omega tests)) (λ _. tt)))
       (λ _. tt)
     where

@@ -1,5 +1,5 @@
 -- The common-reading theorem, of every format whose header tells the size that the buffer announces. Assumes nothing.
-use mathlib.Core.Path.{_≡_, refl, ap, sym, _∙_, subst}
+use mathlib.Core.Path.{_≡_, ap, sym, _∙_, subst}
 use mathlib.Core.List.{List}
 use Prim.Native.Nat.{ℕ, _*_, _≤_, _<_}
 use native.Mathlib.Omega.{arith}
@@ -8,9 +8,8 @@ use lib.Seq.{ext-getD, getD-take, length-take-le}
 use Rattle.bits.specs.Bits.{SameBits}
 use Rattle.bits.proofs.BitLaws.{same-bytes}
 use Rattle.reading.specs.Run.{Result, accepted, refused, Outcome}
-use Rattle.reading.specs.Room.{cut}
 use Rattle.reading.specs.Frame.{Format, Announces, parse}
-use Rattle.reading.specs.CommonReading.{Holds, Case, answer, list, Stand, SameSpans, Bytes, CommonReading}
+use Rattle.reading.specs.CommonReading.{Holds, Case, answer, Bytes, CommonReading}
 use Rattle.reading.proofs.Lockstep.{Split}
 use Rattle.reading.proofs.Rooms.{cut-same}
 use Rattle.reading.proofs.Frames.{Late, whole, parse-whole, whole-ends, whole-split, stand}

@@ -2,22 +2,21 @@
 -- record of the one is of the same kind in the other. Assumes nothing.
 use mathlib.Core.Path.{_≡_, refl, ap, sym, _∙_}
 use mathlib.Core.Bool.{Bool, true, false, not, cond}
-use mathlib.Core.List.{List, [], _∷_, _++_, map, append-nil}
+use mathlib.Core.List.{List, [], _∷_, append-nil}
 use mathlib.Core.Logic.{by-cases, _⊎_, inl, inr}
-use Prim.Native.Nat.{ℕ, _+_, _*_, _-_, _≤_, _<_}
+use Prim.Native.Nat.{ℕ, _+_, _*_, _-_, _<_}
 use native.Mathlib.Omega.{arith}
 use native.Mathlib.Decide.{decLt}
 use lib.Dec.{leb, eqb, T, leb→le, nleb→lt, eqb→eq, eqb-refl}
 use Rattle.bits.specs.Bits.{bitsAt, SameBits}
 use Rattle.bits.proofs.BitLaws.{bitsAt-inj, bitsAt-lt}
-use Rattle.reading.specs.Tree.{Part, Skim, Tree, done, refuse, here, read, span, scan}
-use Rattle.reading.specs.Run.{Field, Entry, end, element, region, Result, accepted, refused, Outcome, out, cons, prefix, andThen, after, skim, run}
-use Rattle.reading.specs.Frame.{TailNames, Format, ahead, auxdataeAt, tail, finish, framed}
+use Rattle.reading.specs.Tree.{Part, Skim, Tree, done, refuse, ahead, here, read, span, scan}
+use Rattle.reading.specs.Run.{Field, Entry, element, region, Result, accepted, refused, Outcome, out, cons, andThen, after, skim, run}
+use Rattle.reading.specs.Frame.{TailNames, Format, auxdataeAt, tail, finish, framed}
 use Rattle.reading.specs.CommonReading.{list, SameSpans}
 use Rattle.reading.proofs.Laws.{test, choice, skimmed}
 use Rattle.reading.proofs.Runs.{after-cons, after-after}
 use Rattle.reading.proofs.Lockstep.{Common, same, split, skimming}
-use Rattle.reading.proofs.Tails.{ahead-case}
 use Rattle.reading.proofs.Frames.{whole}
 
 ruleset tests = (arith, leb→le, nleb→lt)
@@ -108,6 +107,7 @@ module _ (x y : List ℕ) where
   unfolding run after
   same-after (done a) p l f g s k = k a p s
   same-after (refuse n) p l f g s k = λ e i. absurd i
+  same-after (ahead n w) p l f g s k = λ e i. absurd i
   same-after (here h) p l f g s k = same-after (h p) p l f g s k
   same-after (read q w h) p l f g s k =
       twin-test (leb (p + w) l) p _ _ _ _ f g
@@ -143,7 +143,7 @@ tail-seen {A} names b v a p l =
     (λ h. choice G (eqb v 1)
     (λ i. choice G (leb (p + 32) l)
     (λ j. test S (leb (p + (l - 32 - p)) l) (λ _ k. inl (i, omega tests)) (λ _. absurd))
-    (λ j. ahead-case S b p (auxdataeAt l - p + 1) 31 l absurd (λ _. absurd)))
+    (λ j. absurd))
     (λ i. test S (leb (p + (auxdataeAt l - p)) l) (λ _ k. inr (i, omega tests)) (λ _. absurd)))
     (λ h. absurd)
   where

@@ -8,7 +8,7 @@ use lib.Dec.{leb, eqb}
 use lib.IntN.{negsuc}
 use lib.ListN.{length}
 use Rattle.bits.specs.Bits.{bitsAt}
-use Rattle.reading.specs.Tree.{Part, Skim, fail, take, Tree, done, refuse, here, read, span, scan}
+use Rattle.reading.specs.Tree.{Part, Tree, done, refuse, ahead, here, read, span}
 use Rattle.reading.specs.Run.{accepted, refused, Outcome, out, after, run}
 
 -- the numbers of the tail's names
@@ -43,10 +43,6 @@ Announces {H} F = (b : List ℕ) (h : H) → run (F .header) b 0 48 .result ≡ 
 abbrev pub auxdataeAt : ℕ → ℕ
 auxdataeAt l = l - 18
 
--- a refusal w bits ahead; nothing is recorded
-unfoldable pub ahead : {A : Type 0} → ℕ → ℕ → Tree A
-ahead w n = scan (plain 0) (take w (λ _. fail n)) (λ _. refuse n)
-
 module _ (names : TailNames) where
   unfoldable pub ending : {A : Type 0} → A → Tree A
   ending a =
@@ -58,7 +54,7 @@ module _ (names : TailNames) where
   -- in a frame that ends at the bit l the value v of auxdatae is looked at ahead.
   -- auxbits reach to auxdatae, or to the 14 bits of auxdatal before it; they hold the auxdatal bits of data.
   unfoldable pub tail : {A : Type 0} → ℕ → ℕ → A → Tree A
-  unfolding ending ahead
+  unfolding ending
   tail v l a =
       here λ p.
       cond (leb (p + 18) l)
@@ -66,8 +62,8 @@ module _ (names : TailNames) where
       (cond (leb (p + 32) l)
       (span (plain (names .auxbits)) (l - 32 - p)
       (read (plain (names .auxdatal)) 14 λ n.
-      cond (leb n (l - 32 - p)) (ending a) (ahead 1 32)))
-      (ahead (auxdataeAt l - p + 1) 31))
+      cond (leb n (l - 32 - p)) (ending a) (ahead 32 1)))
+      (ahead 31 (auxdataeAt l - p + 1)))
       (span (plain (names .auxbits)) (auxdataeAt l - p) (ending a)))
       (refuse 30)
 

@@ -1,10 +1,10 @@
 -- What holds of a list of records.
 use mathlib.Core.Path.{_≡_}
-use mathlib.Core.Bool.{Bool, true, false}
+use mathlib.Core.Bool.{false}
 use mathlib.Core.List.{List, [], _∷_}
 use Prim.Native.Nat.{ℕ, _≤_}
 use Rattle.bits.specs.Bits.{bitsAt}
-use Rattle.reading.specs.Run.{Field, Entry, end, Result, accepted, refused, Outcome}
+use Rattle.reading.specs.Run.{Entry, end, Result, accepted, refused, Outcome}
 
 abbrev pub All : (Entry → Type 0) → List Entry → Type 0
 All P [] = Unit {0}
@@ -27,5 +27,5 @@ pub record Tiled {A : Type 0} (q : ℕ) (o : Outcome A) : Type 0 where
   pub whole : Whole (o .result) upto (o .place)
 
 -- an element's value is the number of its bits
-abbrev pub Told : List ℕ → Entry → Type 0
-Told b e = e .spans ≡ false → e .field .value ≡ bitsAt b (e .field .first) (e .field .width)
+abbrev pub Valued : List ℕ → Entry → Type 0
+Valued b e = e .spans ≡ false → e .field .value ≡ bitsAt b (e .field .first) (e .field .width)

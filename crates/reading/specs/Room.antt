@@ -1,12 +1,12 @@
 -- The room for records: six lists side by side, as long as the shortest of them. A record that finds none is refusal 33 at its first bit.
-use mathlib.Core.Bool.{Bool, true, false, cond}
+use mathlib.Core.Bool.{cond}
 use mathlib.Core.List.{List, [], _∷_}
 use Prim.Native.Nat.{ℕ, zero, suc, _+_, _-_, min}
 use lib.Dec.{leb}
 use lib.IntN.{ℤ}
 use lib.ListN.{length, set}
 use Rattle.bits.specs.Bits.{bitsAt}
-use Rattle.reading.specs.Tree.{Part, Skim, Tree, done, refuse, here, read, span, scan}
+use Rattle.reading.specs.Tree.{Tree, done, refuse, ahead, here, read, span, scan}
 use Rattle.reading.specs.Run.{Field, Entry, fieldOf, Result, accepted, refused, Outcome, out, cons, skim}
 
 -- an outcome with room for n records, from the outcome with unlimited room
@@ -78,6 +78,7 @@ module _ (s : List ℕ) (limit : ℕ) where
   unfoldable pub exec : {A : Type 0} → Tree A → ℕ → ℕ → Room → Out A
   exec (done a) p n m = got (accepted a) p n m
   exec (refuse k) p n m = got (refused k) p n m
+  exec (ahead k w) p n m = got (refused k) (p + w) n m
   exec (here k) p n m = exec (k p) p n m
   exec (read q w k) p n m =
       let v = bitsAt s p w in

@@ -5,7 +5,7 @@ use Prim.Native.Nat.{ℕ, _+_, _-_}
 use lib.Dec.{leb}
 use lib.IntN.{ℤ}
 use Rattle.bits.specs.Bits.{bitsAt}
-use Rattle.reading.specs.Tree.{Part, Skim, stop, fail, at, take, Tree, done, refuse, here, read, span, scan}
+use Rattle.reading.specs.Tree.{Part, Skim, stop, fail, at, take, Tree, done, refuse, ahead, here, read, span, scan}
 
 -- a record: its six parts
 pub record Field : Type 0 where
@@ -74,6 +74,7 @@ skim (take w k) b p l =
 unfoldable pub run : {A : Type 0} → Tree A → List ℕ → ℕ → ℕ → Outcome A
 run (done a) b p l = out (accepted a) p []
 run (refuse n) b p l = out (refused n) p []
+run (ahead n w) b p l = out (refused n) (p + w) []
 run (here k) b p l = run (k p) b p l
 run (read q w k) b p l =
     let v = bitsAt b p w in

@@ -23,6 +23,8 @@ pub data Tree (A : Type 0) : Type 0 where
   done : A → Tree A
   -- a refusal, with its number
   refuse : ℕ → Tree A
+  -- a refusal, with its number, so many bits ahead of the present place
+  ahead : ℕ → ℕ → Tree A
   -- the present bit place
   here : (ℕ → Tree A) → Tree A
   -- an element of so many bits, recorded with its value
@@ -38,6 +40,7 @@ infixl 40 _>>_
 unfoldable pub _>>=_ : {A B : Type 0} → Tree A → (A → Tree B) → Tree B
 done a >>= f = f a
 refuse n >>= f = refuse n
+ahead n w >>= f = ahead n w
 here k >>= f = here (λ p. k p >>= f)
 read q w k >>= f = read q w (λ v. k v >>= f)
 span q w t >>= f = span q w (t >>= f)

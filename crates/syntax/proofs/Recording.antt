@@ -16,7 +16,7 @@ use Rattle.bits.proofs.BitLaws.{get-in}
 use Rattle.reading.specs.Tree.{Part}
 use Rattle.reading.specs.Run.{Field, fieldOf, skim}
 use Rattle.reading.specs.Room.{Room, room, size, pushed, exec}
-use Rattle.syntax.specs.Records.{part, told, seen, goingAt, haltedAt, Kept, kept, recordOf, keepOf, readOf, spanOf, rawOf}
+use Rattle.syntax.specs.Records.{part, outcome, seen, goingAt, haltedAt, Recorded, recorded, recordOf, keepOf, readOf, spanOf, rawOf}
 use Rattle.syntax.specs.declared.Cursor.{Cursor}
 
 -- a sum tested without making it
@@ -34,40 +34,40 @@ signed hb hi name p w v = ap₂ (λ x y. fieldOf (part name x y) p w v) (toZ-ofZ
 
 -- a record into the room
 module _ (m : Room) (n : ℕ) (f : Field) where
-  pub record-full : size m ≤ n → kept 0 m ≡ recordOf m n f
+  pub record-full : size m ≤ n → recorded 0 m ≡ recordOf m n f
   unfolding recordOf
   record-full h = rw (le-leb _ _ h)
 
   pub record-made : n < size m → (b i : ℤ) → b ≡ f .block → i ≡ f .index
-      → kept (n + 1) (room (set (m .names) n (f .name)) (set (m .blocks) n b) (set (m .indexes) n i) (set (m .firsts) n (f .first)) (set (m .widths) n (f .width)) (set (m .values) n (f .value)))
+      → recorded (n + 1) (room (set (m .names) n (f .name)) (set (m .blocks) n b) (set (m .indexes) n i) (set (m .firsts) n (f .first)) (set (m .widths) n (f .width)) (set (m .values) n (f .value)))
       ≡ recordOf m n f
   unfolding recordOf pushed
   record-made h b i eb ei = rw (eb, ei, lt-leb _ _ h)
 
   -- and the reading goes on, or is refused
-  module _ (g : Field) (eg : g ≡ f) (c : ℕ) (mu : Room) (e : kept c mu ≡ recordOf m n g) (next : ℕ) (r : Cursor) where
-    noticed : (b : Bool) → leb (size m) n ≡ b → kept c mu ≡ cond b (kept 0 m) (kept (n + 1) (pushed m n f))
+  module _ (g : Field) (eg : g ≡ f) (c : ℕ) (mu : Room) (e : recorded c mu ≡ recordOf m n g) (next : ℕ) (r : Cursor) where
+    noticed : (b : Bool) → leb (size m) n ≡ b → recorded c mu ≡ cond b (recorded 0 m) (recorded (n + 1) (pushed m n f))
     unfolding recordOf
-    noticed b eb = e ∙ ap (recordOf m n) eg ∙ ap (λ y. cond y (kept 0 m) (kept (n + 1) (pushed m n f))) eb
+    noticed b eb = e ∙ ap (recordOf m n) eg ∙ ap (λ y. cond y (recorded 0 m) (recorded (n + 1) (pushed m n f))) eb
 
-    pub keep-full : c ≡ 0 → r ≡ haltedAt (f .first) n 33 → told r (f .value) mu ≡ keepOf f next n m
+    pub keep-full : c ≡ 0 → r ≡ haltedAt (f .first) n 33 → outcome r (f .value) mu ≡ keepOf f next n m
     keep-full ec er = go (leb (size m) n) refl
       where
-        go : (b : Bool) → leb (size m) n ≡ b → told r (f .value) mu ≡ keepOf f next n m
-        go true eb = let z : mu ≡ m = ap (λ (o : Kept). o .left) (noticed true eb) in rw (er, eb, z)
-        go false eb = let z : c ≡ n + 1 = ap (λ (o : Kept). o .count) (noticed false eb) in absurd (omega arith)
+        go : (b : Bool) → leb (size m) n ≡ b → outcome r (f .value) mu ≡ keepOf f next n m
+        go true eb = let z : mu ≡ m = ap (λ (o : Recorded). o .left) (noticed true eb) in rw (er, eb, z)
+        go false eb = let z : c ≡ n + 1 = ap (λ (o : Recorded). o .count) (noticed false eb) in absurd (omega arith)
 
-    pub keep-made : ¬ (c ≡ 0) → r ≡ goingAt next c → told r (f .value) mu ≡ keepOf f next n m
+    pub keep-made : ¬ (c ≡ 0) → r ≡ goingAt next c → outcome r (f .value) mu ≡ keepOf f next n m
     keep-made nc er = go (leb (size m) n) refl
       where
-        go : (b : Bool) → leb (size m) n ≡ b → told r (f .value) mu ≡ keepOf f next n m
-        go true eb = let z : c ≡ 0 = ap (λ (o : Kept). o .count) (noticed true eb) in absurd (nc z)
+        go : (b : Bool) → leb (size m) n ≡ b → outcome r (f .value) mu ≡ keepOf f next n m
+        go true eb = let z : c ≡ 0 = ap (λ (o : Recorded). o .count) (noticed true eb) in absurd (nc z)
         go false eb =
-            let z : c ≡ n + 1 = ap (λ (o : Kept). o .count) (noticed false eb) in
-            let y : mu ≡ pushed m n f = ap (λ (o : Kept). o .left) (noticed false eb) in
+            let z : c ≡ n + 1 = ap (λ (o : Recorded). o .count) (noticed false eb) in
+            let y : mu ≡ pushed m n f = ap (λ (o : Recorded). o .left) (noticed false eb) in
             rw (er, eb, z, y)
 
-pub keep-same : (m mu : Room) (n next : ℕ) (g f : Field) → g ≡ f → (r : Cursor) → told r (f .value) mu ≡ keepOf g next n m → told r (f .value) mu ≡ keepOf f next n m
+pub keep-same : (m mu : Room) (n next : ℕ) (g f : Field) → g ≡ f → (r : Cursor) → outcome r (f .value) mu ≡ keepOf g next n m → outcome r (f .value) mu ≡ keepOf f next n m
 keep-same m mu n next g f eg r e = e ∙ ap (λ x. keepOf x next n m) eg
 
 -- bits at the place p, which pass the limit or not
@@ -76,11 +76,11 @@ module _ (s : List ℕ) (l w p n : ℕ) (b : Bool) (eb : b ≡ ltb l (p + w)) (r
   over h = let c : l < p + w = ltb-true _ _ (sym eb ∙ h) in lt-leb _ _ c
 
   module _ (h : b ≡ true) (er : r ≡ haltedAt p n 8) (v : ℕ) where
-    pub read-past : (q : Part) (m : Room) → told r v m ≡ readOf s l q w p n m
+    pub read-past : (q : Part) (m : Room) → outcome r v m ≡ readOf s l q w p n m
     unfolding exec
     read-past q m = rw (er, over h)
 
-    pub span-past : (q : Part) (m : Room) → told r v m ≡ spanOf s l q w p n m
+    pub span-past : (q : Part) (m : Room) → outcome r v m ≡ spanOf s l q w p n m
     unfolding exec
     span-past q m = rw (er, over h)
 
@@ -92,7 +92,7 @@ module _ (s : List ℕ) (l w p n : ℕ) (b : Bool) (eb : b ≡ ltb l (p + w)) (r
     under : leb (p + w) l ≡ true
     under = let c : p + w ≤ l = ltb-false _ _ (sym eb ∙ h) in le-leb _ _ c
 
-    pub span-in : (q : Part) (m mu : Room) (g : Field) → g ≡ fieldOf q p w 0 → told r 0 mu ≡ keepOf g (p + w) n m → told r 0 mu ≡ spanOf s l q w p n m
+    pub span-in : (q : Part) (m mu : Room) (g : Field) → g ≡ fieldOf q p w 0 → outcome r 0 mu ≡ keepOf g (p + w) n m → outcome r 0 mu ≡ spanOf s l q w p n m
     unfolding exec
     span-in q m mu g eg e = rw under (keep-same m mu n (p + w) g _ eg r e)
 
@@ -100,7 +100,7 @@ module _ (s : List ℕ) (l w p n : ℕ) (b : Bool) (eb : b ≡ ltb l (p + w)) (r
       value : bitsAt s p w ≡ v
       value = let c : p + w ≤ l = ltb-false _ _ (sym eb ∙ h) in sym (ev ∙ get-in s p w small (omega arith))
 
-      pub read-in : (q : Part) (m mu : Room) (g : Field) → g ≡ fieldOf q p w v → told r v mu ≡ keepOf g (p + w) n m → told r v mu ≡ readOf s l q w p n m
+      pub read-in : (q : Part) (m mu : Room) (g : Field) → g ≡ fieldOf q p w v → outcome r v mu ≡ keepOf g (p + w) n m → outcome r v mu ≡ readOf s l q w p n m
       unfolding exec
       read-in q m mu g eg e = rw (under, value) (keep-same m mu n (p + w) g _ eg r e)
 

@@ -17,8 +17,8 @@ abbrev pub resultOf : {A : Type 0} → Cursor → A → Result A
 resultOf c a = cond (c .stopped) (refused (c .number)) (accepted a)
 
 -- a cursor, with what was read and the room then
-abbrev pub told : {A : Type 0} → Cursor → A → Room → Out A
-told c a m = got (resultOf c a) (c .at .0) (c .count) m
+abbrev pub outcome : {A : Type 0} → Cursor → A → Room → Out A
+outcome c a m = got (resultOf c a) (c .at .0) (c .count) m
 
 -- the same of bits inside a span, which make no record
 abbrev pub seen : {A : Type 0} → Cursor → A → Outcome A
@@ -32,15 +32,15 @@ abbrev pub haltedAt : ℕ → ℕ → ℕ → Cursor
 haltedAt p n k = record { at = record { 0 = p }; count = n; stopped = true; number = k }
 
 -- a record put into the room at the place n: the new count and the room then; the count 0 where there is no room
-pub record Kept : Type 0 where
+pub record Recorded : Type 0 where
   pub count : ℕ
   pub left : Room
 
-abbrev pub kept : ℕ → Room → Kept
-kept n m = record { count = n; left = m }
+abbrev pub recorded : ℕ → Room → Recorded
+recorded n m = record { count = n; left = m }
 
-unfoldable pub recordOf : Room → ℕ → Field → Kept
-recordOf m n f = cond (leb (size m) n) (kept 0 m) (kept (n + 1) (pushed m n f))
+unfoldable pub recordOf : Room → ℕ → Field → Recorded
+recordOf m n f = cond (leb (size m) n) (recorded 0 m) (recorded (n + 1) (pushed m n f))
 
 -- a record put into the room, after which the reading goes on at the place next with its value
 abbrev pub keepOf : Field → ℕ → ℕ → Room → Out ℕ

@@ -8,7 +8,7 @@ ghost use lib.Dec.{ltb};
 ghost use lib.ListN.{length};
 ghost use Rattle.reading.specs.Run.{fieldOf};
 ghost use Rattle.reading.specs.Room.{room};
-ghost use Rattle.syntax.specs.Records.{part, told, seen, haltedAt, goingAt, kept, recordOf, keepOf, readOf, spanOf, rawOf, closeOf};
+ghost use Rattle.syntax.specs.Records.{part, outcome, seen, haltedAt, goingAt, recorded, recordOf, keepOf, readOf, spanOf, rawOf, closeOf};
 
 // Where a reading stands: the next bit, the number of records, and the refusal that stopped it.
 pub struct Cursor {
@@ -64,7 +64,8 @@ fn lesser(a: usize, b: usize) -> usize
     if a < b { a } else { b }
 }
 
-fn least(a: usize, b: usize, c: usize, d: usize, e: usize, f: usize) -> usize
+// The least of six lengths: how many records fit into six slices of those lengths.
+pub fn least(a: usize, b: usize, c: usize, d: usize, e: usize, f: usize) -> usize
     ensures { λ r. ⌜ r ≡ min a (min b (min c (min d (min e f)))) ⌝ }
 {
     lesser(a, lesser(b, lesser(c, lesser(d, lesser(e, f)))))
@@ -86,7 +87,7 @@ pub fn record(
     width: u16,
     value: u32,
 ) -> usize
-    ensures { λ r. ⌜ kept r (room (now (names .exit)) (now (blocks .exit)) (now (indexes .exit)) (now (firsts .exit)) (now (widths .exit)) (now (values .exit)))
+    ensures { λ r. ⌜ recorded r (room (now (names .exit)) (now (blocks .exit)) (now (indexes .exit)) (now (firsts .exit)) (now (widths .exit)) (now (values .exit)))
         ≡ recordOf (room (now (names .entry)) (now (blocks .entry)) (now (indexes .entry)) (now (firsts .entry)) (now (widths .entry)) (now (values .entry))) count (fieldOf (part name block index) (first .0) width value) ⌝ }
 {
     if least(
@@ -127,7 +128,7 @@ pub fn keep(
     value: u32,
     next: BitPlace,
 ) -> Cursor
-    ensures { λ r. ⌜ told r value (room (now (names .exit)) (now (blocks .exit)) (now (indexes .exit)) (now (firsts .exit)) (now (widths .exit)) (now (values .exit)))
+    ensures { λ r. ⌜ outcome r value (room (now (names .exit)) (now (blocks .exit)) (now (indexes .exit)) (now (firsts .exit)) (now (widths .exit)) (now (values .exit)))
         ≡ keepOf (fieldOf (part name block index) (first .0) width value) (next .0) count (room (now (names .entry)) (now (blocks .entry)) (now (indexes .entry)) (now (firsts .entry)) (now (widths .entry)) (now (values .entry))) ⌝ }
 {
     let n = record(
@@ -168,7 +169,7 @@ pub fn read(
     width: u16,
 ) -> Taken
     requires { ⌜ (width ≤ 32) × (limit .0 ≤ 8 * length (now src)) ⌝ }
-    ensures { λ r. ⌜ told (r .cursor) (r .value) (room (now (names .exit)) (now (blocks .exit)) (now (indexes .exit)) (now (firsts .exit)) (now (widths .exit)) (now (values .exit)))
+    ensures { λ r. ⌜ outcome (r .cursor) (r .value) (room (now (names .exit)) (now (blocks .exit)) (now (indexes .exit)) (now (firsts .exit)) (now (widths .exit)) (now (values .exit)))
         ≡ readOf (now (src .entry)) (limit .0) (part name block index) width (cur .at .0) (cur .count) (room (now (names .entry)) (now (blocks .entry)) (now (indexes .entry)) (now (firsts .entry)) (now (widths .entry)) (now (values .entry))) ⌝ }
 {
     let at = cur.at;
@@ -218,7 +219,7 @@ pub fn span(
     index: i16,
     width: u16,
 ) -> Cursor
-    ensures { λ r. ⌜ ((s : List ℕ) → told r 0 (room (now (names .exit)) (now (blocks .exit)) (now (indexes .exit)) (now (firsts .exit)) (now (widths .exit)) (now (values .exit)))
+    ensures { λ r. ⌜ ((s : List ℕ) → outcome r 0 (room (now (names .exit)) (now (blocks .exit)) (now (indexes .exit)) (now (firsts .exit)) (now (widths .exit)) (now (values .exit)))
         ≡ spanOf s (limit .0) (part name block index) width (cur .at .0) (cur .count) (room (now (names .entry)) (now (blocks .entry)) (now (indexes .entry)) (now (firsts .entry)) (now (widths .entry)) (now (values .entry)))) ⌝ }
 {
     let at = cur.at;
@@ -281,7 +282,7 @@ pub fn close(
     first: BitPlace,
 ) -> Cursor
     requires { ⌜ first .0 ≤ cur .at .0 ⌝ }
-    ensures { λ r. ⌜ told r 0 (room (now (names .exit)) (now (blocks .exit)) (now (indexes .exit)) (now (firsts .exit)) (now (widths .exit)) (now (values .exit)))
+    ensures { λ r. ⌜ outcome r 0 (room (now (names .exit)) (now (blocks .exit)) (now (indexes .exit)) (now (firsts .exit)) (now (widths .exit)) (now (values .exit)))
         ≡ closeOf (part name block index) (first .0) (cur .at .0) (cur .count) (room (now (names .entry)) (now (blocks .entry)) (now (indexes .entry)) (now (firsts .entry)) (now (widths .entry)) (now (values .entry))) ⌝ }
 {
     let at = cur.at;

@@ -7,9 +7,6 @@ use Rattle.bits.specs.Bits.{bitsAt}
 use Rattle.bits.proofs.Loads.{none, one, two, more, small}
 use Rattle.bits.proofs.load.Statement.{statement}
 use Rattle.bits.proofs.load.Tie as tie
-use Rattle.bits.proofs.load.Reads as reads
-use Rattle.bits.proofs.load.Lts as lts
-use Rattle.bits.proofs.wide.Reads as wide-reads
 
 abbrev Inv-loop : tie.InvT-loop
 Inv-loop src first last n v₀ i₀ v i = (first ≤ i) × (i ≤ last) × (v ≡ bitsAt src (8 * first) (8 * (i - first)))
@@ -17,35 +14,11 @@ Inv-loop src first last n v₀ i₀ v i = (first ≤ i) × (i ≤ last) × (v �
 abbrev μ-loop : tie.MeasureT-loop
 μ-loop src first last n v₀ i₀ v i = last - i
 
-sub-n : tie.Need-sub-n Inv-loop μ-loop
-sub-n c = search needs
-
-shared-slice-read-wide : tie.Need-shared-slice-read-wide Inv-loop μ-loop
-shared-slice-read-wide c = search needs
-
-wide-requires : tie.Need-wide-requires Inv-loop μ-loop
-wide-requires c κs = search needs
-
 returns : tie.Need-returns Inv-loop μ-loop
 returns c = one (c .before .before .before .before .args .src .now) _ _ _ (omega arith) (c .wide .ensures .0) (c .wide .ensures .1)
 
-shared-slice-read-wide-2 : tie.Need-shared-slice-read-wide-2 Inv-loop μ-loop
-shared-slice-read-wide-2 c = search needs
-
-wide-requires-2 : tie.Need-wide-requires-2 Inv-loop μ-loop
-wide-requires-2 c κs = search needs
-
 mul-result : tie.Need-mul-result Inv-loop μ-loop
 mul-result c = omega (arith, c .wide2 .ensures .1)
-
-add-wide : tie.Need-add-wide Inv-loop μ-loop
-add-wide c = search needs
-
-shared-slice-read-wide-3 : tie.Need-shared-slice-read-wide-3 Inv-loop μ-loop
-shared-slice-read-wide-3 c = search needs
-
-wide-requires-3 : tie.Need-wide-requires-3 Inv-loop μ-loop
-wide-requires-3 c κs = search needs
 
 add-result : tie.Need-add-result Inv-loop μ-loop
 add-result c = omega (arith, c .before .before .wide2 .ensures .1, c .wide3 .ensures .1)
@@ -59,20 +32,8 @@ loop-holds c = (omega arith, omega arith, none (c .before .before .before .args 
 mul-v : tie.Need-mul-v Inv-loop μ-loop
 mul-v c = omega (arith, small (c .before .before .before .before .before .args .src .now) (c .before .before .before .before .before .args .first) (c .before .loop .i) (c .before .loop .v) (c .before .loop .inv .2) (omega arith))
 
-shared-slice-read-wide-4 : tie.Need-shared-slice-read-wide-4 Inv-loop μ-loop
-shared-slice-read-wide-4 c = search needs
-
-wide-requires-4 : tie.Need-wide-requires-4 Inv-loop μ-loop
-wide-requires-4 c κs = search needs
-
 add-v : tie.Need-add-v Inv-loop μ-loop
 add-v c = omega (arith, c .wide4 .ensures .1, small (c .before .before .before .before .before .before .before .args .src .now) (c .before .before .before .before .before .before .before .args .first) (c .before .before .before .loop .i) (c .before .before .before .loop .v) (c .before .before .before .loop .inv .2) (omega arith))
-
-add-i : tie.Need-add-i Inv-loop μ-loop
-add-i c = search needs
-
-loop-less : tie.Need-loop-less Inv-loop μ-loop
-loop-less c = search needs
 
 loop-again : tie.Need-loop-again Inv-loop μ-loop
 loop-again c = (
@@ -86,28 +47,7 @@ returns-3 c = let e : c .before .loop .i ≡ c .before .before .before .before .
 
 pub load-spec : {M : Type 1} → statement M
 load-spec =
-    tie.close
-    (tie.spec
-    Inv-loop
-    μ-loop
-    sub-n
-    shared-slice-read-wide
-    wide-requires
-    returns
-    shared-slice-read-wide-2
-    wide-requires-2
-    mul-result
-    add-wide
-    shared-slice-read-wide-3
-    wide-requires-3
-    add-result
-    returns-2
-    loop-holds
-    mul-v
-    shared-slice-read-wide-4
-    wide-requires-4
-    add-v
-    add-i
-    loop-less
-    loop-again
-    returns-3)
+    tie.close (tie.spec Inv-loop μ-loop (λ c. search needs) (λ c. search needs) (λ c κs. search needs) returns
+    (λ c. search needs) (λ c κs. search needs) mul-result (λ c. search needs) (λ c. search needs)
+    (λ c κs. search needs) add-result returns-2 loop-holds mul-v (λ c. search needs) (λ c κs. search needs) add-v
+    (λ c. search needs) (λ c. search needs) loop-again returns-3)

@@ -7,29 +7,8 @@ use Rattle.lent.proofs.From.{close-from, reach}
 use Rattle.lent.proofs.close_at.Statement.{statement}
 use Rattle.lent.proofs.close_at.Tie as tie
 
-going-requires : tie.Need-going-requires
-going-requires c κs = search needs
-
 close-requires : tie.Need-close-requires
 close-requires c κs = reach _ _ _ (c .before .before .going .ensures) _ (c .before .before .before .before .before .before .before .before .before .before .before .before .before .before .pre)
-
-same-length : tie.Need-same-length
-same-length c = search needs
-
-same-length-2 : tie.Need-same-length-2
-same-length-2 c = search needs
-
-same-length-3 : tie.Need-same-length-3
-same-length-3 c = search needs
-
-same-length-4 : tie.Need-same-length-4
-same-length-4 c = search needs
-
-same-length-5 : tie.Need-same-length-5
-same-length-5 c = search needs
-
-same-length-6 : tie.Need-same-length-6
-same-length-6 c = search needs
 
 returns : tie.Need-returns
 returns c = close-from _ _ _ (c .before .before .before .before .before .before .before .before .before .before .before .before .before .going .ensures) _
@@ -37,4 +16,6 @@ returns c = close-from _ _ _ (c .before .before .before .before .before .before 
     _ _ (c .before .before .before .before .before .before .before .before .before .before .close .ensures)
 
 pub close-at-spec : {M : Type 1} → statement M
-close-at-spec = tie.close (tie.spec going-requires close-requires same-length same-length-2 same-length-3 same-length-4 same-length-5 same-length-6 returns)
+close-at-spec =
+    tie.close (tie.spec (λ c κs. search needs) close-requires (λ c. search needs) (λ c. search needs)
+    (λ c. search needs) (λ c. search needs) (λ c. search needs) (λ c. search needs) returns)

@@ -5,14 +5,8 @@ use Rattle.lent.proofs.From.{raw-from}
 use Rattle.lent.proofs.raw_at.Statement.{statement}
 use Rattle.lent.proofs.raw_at.Tie as tie
 
-going-requires : tie.Need-going-requires
-going-requires c κs = search needs
-
-raw-requires : tie.Need-raw-requires
-raw-requires c κs = search needs
-
 returns : tie.Need-returns
 returns c = raw-from _ _ _ (c .before .going .ensures) _ _ _ (c .raw .ensures .0)
 
 pub raw-at-spec : {M : Type 1} → statement M
-raw-at-spec = tie.close (tie.spec going-requires raw-requires returns)
+raw-at-spec = tie.close (tie.spec (λ c κs. search needs) (λ c κs. search needs) returns)

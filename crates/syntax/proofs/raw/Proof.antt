@@ -4,28 +4,16 @@ use borrow.Author.Needs.{needs}
 use Rattle.syntax.proofs.raw.Statement.{statement}
 use Rattle.syntax.proofs.raw.Tie as tie
 
-past-requires : tie.Need-past-requires
-past-requires c κs = search needs
-
-halted-requires : tie.Need-halted-requires
-halted-requires c κs = search needs
-
 returns : tie.Need-returns
 returns c = raw-past _ _ _ _ _ _ (c .before .before .past .ensures) _ (c .before .if1 .taken) (c .halted .ensures) _
 
-get-requires : tie.Need-get-requires
-get-requires c κs = search needs
-
 add-t11 : tie.Need-add-t11
 add-t11 c = fits16 _ _ (c .before .before .before .before .before .before .args .limit .0) (c .before .before .before .past .ensures) (c .before .before .if1 .left) (search needs)
-
-going-requires : tie.Need-going-requires
-going-requires c κs = search needs
 
 returns-2 : tie.Need-returns-2
 returns-2 c = raw-in _ _ _ _ _ _ (c .before .before .before .before .past .ensures) _ (c .before .before .before .if1 .left) (c .before .before .before .before .before .before .before .pre .0) (c .before .before .before .before .before .before .before .pre .1) _ (c .before .before .get .ensures) (c .going .ensures)
 
 pub raw-spec : {M : Type 1} → statement M
 raw-spec =
-    tie.close
-    (tie.spec past-requires halted-requires returns get-requires add-t11 going-requires returns-2)
+    tie.close (tie.spec (λ c κs. search needs) (λ c κs. search needs) returns (λ c κs. search needs) add-t11
+    (λ c κs. search needs) returns-2)
