@@ -1,4 +1,4 @@
-//! Compares the proved `blocks` with the reference's blocks.rs on generated inputs, damaged ones included.
+//! Compares the proved crates of a block with the reference's blocks.rs on generated inputs, damaged ones included.
 //! usage: blocks [COUNT [SEED]]: COUNT inputs of each kind.
 // The reference's files, as they are: the script puts them beside this one.
 #![allow(dead_code)]

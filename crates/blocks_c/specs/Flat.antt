@@ -3,10 +3,10 @@ use mathlib.Core.Bool.{Bool, false, cond}
 use mathlib.Core.List.{List}
 use Prim.Native.Nat.{ℕ}
 use lib.ListN.{getD, replicate}
-use Rattle.blocks.specs.declared.plan.Shape.{Shape}
-use Rattle.blocks.specs.declared.state.AllocState.{AllocState}
-use Rattle.blocks.specs.declared.state.Parameters.{Parameters}
-use Rattle.blocks.specs.declared.state.Parameters.the-variants.{NeverSent, Sent}
+use Rattle.slots.specs.declared.Shape.{Shape}
+use Rattle.allocation.specs.declared.AllocState.{AllocState}
+use Rattle.allocation.specs.declared.Parameters.{Parameters}
+use Rattle.allocation.specs.declared.Parameters.the-variants.{NeverSent, Sent}
 
 abbrev pub sentOf : Bool → List ℕ → Parameters
 sentOf sent codes =

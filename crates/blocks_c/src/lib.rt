@@ -1,28 +1,28 @@
-// `blocks` for a driver outside: the comparison with the reference.
+// The crates of a block for a driver outside: the comparison with the reference.
+use allocation::AllocState;
+use allocation::Codes;
+use allocation::Parameters;
 use bits::BitPlace;
-use blocks::exponents::Group;
-use blocks::mantissas::Groups;
-use blocks::plan::Shape;
-use blocks::state::AllocState;
-use blocks::state::Codes;
-use blocks::state::Parameters;
+use exponents::Group;
+use mantissas::Groups;
+use slots::Shape;
 ghost use mathlib.Core.Path.{_≡_};
 ghost use Prim.Native.Nat.{_+_, _*_, _-_, _<_, _≤_};
 ghost use lib.ListN.{length};
 ghost use Rattle.reading.specs.Run.{skim};
-ghost use Rattle.blocks.specs.Exponents.{decodeOf, sizeOf, groupsOf, startOf, firstOf, putOf, laidOf};
-ghost use Rattle.blocks.specs.Mantissas.{conventionalOf};
-ghost use Rattle.blocks.specs.Hybrid.{ahtOf};
-ghost use Rattle.blocks.specs.Held.{Held};
-ghost use Rattle.blocks.specs.State.{allocated, allocatedOf, segmentsBy};
-ghost use Rattle.blocks_c.specs.Packed.{packedGroup, packed, PassedTold, TagsTold};
+ghost use Rattle.exponents.specs.Exponents.{decodeOf, sizeOf, groupsOf, startOf, firstOf, putOf, laidOf};
+ghost use Rattle.mantissas.specs.Mantissas.{conventionalOf};
+ghost use Rattle.hybrid.specs.Hybrid.{ahtOf};
+ghost use Rattle.slots.specs.Held.{Held};
+ghost use Rattle.allocation.specs.State.{allocated, allocatedOf, segmentsBy};
+ghost use Rattle.blocks_c.specs.Packed.{packedGroup, packed, PassedOutcome, TagsOutcome};
 ghost use Rattle.blocks_c.specs.Flat.{sentOf, stateOf, shapeOf};
 
 #[no_mangle]
 pub extern "C" fn blocks_groups(slot: u8, strategy: u8, start: u16, end: u16) -> u16
     ensures { λ r. ⌜ r ≡ groupsOf slot strategy start end ⌝ }
 {
-    blocks::exponents::groups(slot, strategy, start, end)
+    exponents::groups(slot, strategy, start, end)
 }
 
 #[no_mangle]
@@ -30,14 +30,14 @@ pub extern "C" fn blocks_start(slot: u8, absexp: u8) -> u8
     requires { ⌜ absexp ≤ 15 ⌝ }
     ensures { λ r. ⌜ r ≡ startOf slot absexp ⌝ }
 {
-    blocks::exponents::start_of(slot, absexp)
+    exponents::start_of(slot, absexp)
 }
 
 #[no_mangle]
 pub extern "C" fn blocks_first(slot: u8, start: u16) -> u16
     ensures { λ r. ⌜ r ≡ firstOf slot start ⌝ }
 {
-    blocks::exponents::first_of(slot, start)
+    exponents::first_of(slot, start)
 }
 
 #[no_mangle]
@@ -45,7 +45,7 @@ pub extern "C" fn blocks_put(bins: &mut [u8; 3584], slot: u8, bin: u32, e: u8)
     requires { ⌜ length (now bins) ≡ 3584 ⌝ }
     ensures { λ r. ⌜ now (bins .exit) ≡ putOf (now (bins .entry)) slot bin e ⌝ }
 {
-    blocks::exponents::put(bins, slot, bin, e);
+    exponents::put(bins, slot, bin, e);
 }
 
 #[no_mangle]
@@ -61,7 +61,7 @@ pub extern "C" fn blocks_lay(
     requires { ⌜ length (now bins) ≡ 3584 ⌝ }
     ensures { λ r. ⌜ now (bins .exit) ≡ laidOf (now (bins .entry)) slot (sizeOf strategy) bin a b c ⌝ }
 {
-    blocks::exponents::lay(bins, slot, strategy, bin, a, b, c);
+    exponents::lay(bins, slot, strategy, bin as u32, a, b, c);
 }
 
 fn wide(x: u8) -> u32
@@ -74,7 +74,7 @@ fn wide(x: u8) -> u32
 pub extern "C" fn blocks_decode(prev: u8, group: u8) -> u32
     ensures { λ r. ⌜ r ≡ packedGroup (decodeOf prev group) ⌝ }
 {
-    let g = blocks::exponents::decode(prev, group);
+    let g = exponents::decode(prev, group);
     match g {
         Group::Refused(n) => 16777216 * wide(n),
         Group::Moved(a, b, c) => wide(a) + 256 * wide(b) + 65536 * wide(c),
@@ -109,9 +109,9 @@ pub extern "C" fn blocks_conventional(
     limit: u16,
 ) -> u64
     requires { ⌜ (length (now bins) ≡ 3584) × (slot < 7) × (end ≤ 256) ⌝ }
-    ensures { λ r. ⌜ PassedTold r (λ s. skim (conventionalOf (now (bins .entry)) slot start (end - start) (record { g1 = g1; g2 = g2; g4 = g4 })) s at limit) ⌝ }
+    ensures { λ r. ⌜ PassedOutcome r (λ s. skim (conventionalOf (now (bins .entry)) slot start (end - start) (record { g1 = g1; g2 = g2; g4 = g4 })) s at limit) ⌝ }
 {
-    let p = blocks::mantissas::conventional(
+    let p = mantissas::conventional(
         bins,
         slot,
         start,
@@ -140,9 +140,9 @@ pub extern "C" fn blocks_aht(
     limit: u16,
 ) -> u64
     requires { ⌜ (length (now bins) ≡ 3584) × (slot < 7) × (end ≤ 256) × (limit ≤ 8 * length (now src)) ⌝ }
-    ensures { λ r. ⌜ TagsTold r (skim (ahtOf (now (bins .entry)) slot start (end - start)) (now (src .entry)) at limit) ⌝ }
+    ensures { λ r. ⌜ TagsOutcome r (skim (ahtOf (now (bins .entry)) slot start (end - start)) (now (src .entry)) at limit) ⌝ }
 {
-    let t = blocks::hybrid::aht(src, bins, slot, start, end, at, limit);
+    let t = hybrid::aht(src, bins, slot, start, end, at, limit);
     pack(t.number, t.place, t.tags, 0, 0)
 }
 
@@ -219,5 +219,5 @@ pub extern "C" fn blocks_allocate<'a>(
         cplend: cplend,
     };
     let mut memo = [0u8; 2128];
-    blocks::state::allocate_block(st, fscod, shape, n, offset, len, ba, bins, &mut memo)
+    allocation::allocate_block(st, fscod, shape, n, offset, len, ba, bins, &mut memo)
 }

@@ -18,9 +18,9 @@ use Rattle.tables.proofs.Rule.{at, both, both-left, both-right}
 right : ℕ → ℕ → Bool
 right bin k = both (eqb k (bandOf bin)) (both (ltb k 50) (both (leb (startOf k) bin) (ltb bin (endOf k))))
 
-told : (bin k : ℕ) → T (right bin k) → BinBand bin k
+found-band : (bin k : ℕ) → T (right bin k) → BinBand bin k
 unfolding right
-told bin k t =
+found-band bin k t =
     let t1 = both-right (eqb k (bandOf bin)) _ t in
     let t2 = both-right (ltb k 50) _ t1 in
     record {
@@ -32,7 +32,7 @@ told bin k t =
 
 pub masktab-band : (bin : ℕ) → bin < 253 → BinBand bin (getD masktab bin 0)
 unfolding right masktab bandOf bndend
-masktab-band bin h = told bin (getD masktab bin 0) (at right masktab tt bin h)
+masktab-band bin h = found-band bin (getD masktab bin 0) (at right masktab tt bin h)
 
 pub own-band : (bin : ℕ) → bin < 253 → BinBand bin (bandOf bin)
 own-band bin h = let b = masktab-band bin h in subst (BinBand bin) (b .band) b

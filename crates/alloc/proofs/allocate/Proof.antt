@@ -6,30 +6,12 @@ use borrow.Author.Needs.{needs}
 use Rattle.alloc.proofs.allocate.Statement.{statement}
 use Rattle.alloc.proofs.allocate.Tie as tie
 
-clear-requires : tie.Need-clear-requires
-clear-requires c κs = search needs
-
-same-length : tie.Need-same-length
-same-length c = search needs
-
 returns : tie.Need-returns
 unfolding allocation
 returns c =
     let a = c .before .before .before .before .before .before .before .args in
     written-empty (pointer (a .kind) (a .exps .now) (a .c) (a .p) (a .l) (a .d)) (a .c .start) (a .c .end) 256 _ _ (c .before .before .before .before .before .before .before .pre .1 .0 .1) (c .before .before .before .before .if1 .taken)
     (c .before .before .clear .ensures)
-
-gains-of-requires : tie.Need-gains-of-requires
-gains-of-requires c κs = search needs
-
-levels-of-requires : tie.Need-levels-of-requires
-levels-of-requires c κs = search needs
-
-leaks-of-requires : tie.Need-leaks-of-requires
-leaks-of-requires c κs = search needs
-
-base-of-requires : tie.Need-base-of-requires
-base-of-requires c κs = search needs
 
 allocate-some-requires : tie.Need-allocate-some-requires
 allocate-some-requires c κs =
@@ -42,9 +24,6 @@ allocate-some-requires c κs =
       ),
     )
 
-same-length-2 : tie.Need-same-length-2
-same-length-2 c = search needs
-
 returns-2 : tie.Need-returns-2
 returns-2 c =
     let a = c .before .before .before .before .before .before .before .before .before .before .before .args in
@@ -54,15 +33,6 @@ returns-2 c =
 
 pub allocate-spec : {M : Type 1} → statement M
 allocate-spec =
-    tie.close
-    (tie.spec
-    clear-requires
-    same-length
-    returns
-    gains-of-requires
-    levels-of-requires
-    leaks-of-requires
-    base-of-requires
-    allocate-some-requires
-    same-length-2
+    tie.close (tie.spec (λ c κs. search needs) (λ c. search needs) returns (λ c κs. search needs)
+    (λ c κs. search needs) (λ c κs. search needs) (λ c κs. search needs) allocate-some-requires (λ c. search needs)
     returns-2)

@@ -10,18 +10,6 @@ use borrow.Author.Needs.{needs}
 use Rattle.alloc.proofs.allocate_some.Statement.{statement}
 use Rattle.alloc.proofs.allocate_some.Tie as tie
 
-band-of-requires : tie.Need-band-of-requires
-band-of-requires c κs = search needs
-
-sub-band-of : tie.Need-sub-band-of
-sub-band-of c = search needs
-
-band-of-requires-2 : tie.Need-band-of-requires-2
-band-of-requires-2 c κs = search needs
-
-add-last : tie.Need-add-last
-add-last c = search needs
-
 bands-requires : tie.Need-bands-requires
 bands-requires c κs =
     let p = c .before .before .before .before .pre in
@@ -73,16 +61,5 @@ returns c =
 
 pub allocate-some-spec : {M : Type 1} → statement M
 allocate-some-spec =
-    tie.close
-    (tie.spec
-    band-of-requires
-    sub-band-of
-    band-of-requires-2
-    add-last
-    bands-requires
-    masks-requires
-    clear-requires
-    point-bands-requires
-    clear-requires-2
-    same-length
-    returns)
+    tie.close (tie.spec (λ c κs. search needs) (λ c. search needs) (λ c κs. search needs) (λ c. search needs)
+    bands-requires masks-requires clear-requires point-bands-requires clear-requires-2 same-length returns)

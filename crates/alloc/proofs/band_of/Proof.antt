@@ -3,12 +3,6 @@ use borrow.Author.Needs.{needs}
 use Rattle.alloc.proofs.band_of.Statement.{statement}
 use Rattle.alloc.proofs.band_of.Tie as tie
 
-element-copy-out-index : tie.Need-element-copy-out-index
-element-copy-out-index c = search needs
-
-index-requires : tie.Need-index-requires
-index-requires c κs = search needs
-
 returns : tie.Need-returns
 returns c =
     let a = c .before .before .args in
@@ -16,4 +10,4 @@ returns c =
     rw (c .index .ensures .0, p .0) (masktab-band (a .bin) (p .1))
 
 pub band-of-spec : {M : Type 1} → statement M
-band-of-spec = tie.close (tie.spec element-copy-out-index index-requires returns)
+band-of-spec = tie.close (tie.spec (λ c. search needs) (λ c κs. search needs) returns)

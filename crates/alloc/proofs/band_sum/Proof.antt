@@ -24,9 +24,6 @@ shared-slice-read-power c = omega (arith, c .before .before .before .pre .2 .siz
 power-requires : tie.Need-power-requires Inv-loop μ-loop
 power-requires c κs = c .before .before .before .pre .2 .low _ (omega arith) (omega arith)
 
-add-j : tie.Need-add-j Inv-loop μ-loop
-add-j c = search needs
-
 loop-holds : tie.Need-loop-holds Inv-loop μ-loop
 loop-holds c =
     let a = c .before .before .before .before .args in
@@ -44,12 +41,6 @@ logadd-requires c κs =
     let at = c .before .before .before in
     let a = at .before .before .before .before .before .args in
     (c .before .before .before .before .before .before .before .before .pre .0, omega (arith, at .loop .inv .2, sum-high (a .exps .now) (a .lo) (at .loop .j - a .lo - 1)), omega (arith, c .power2 .ensures))
-
-add-j-2 : tie.Need-add-j-2 Inv-loop μ-loop
-add-j-2 c = search needs
-
-loop-less : tie.Need-loop-less Inv-loop μ-loop
-loop-less c = search needs
 
 loop-again : tie.Need-loop-again Inv-loop μ-loop
 loop-again c =
@@ -71,19 +62,6 @@ returns-2 c =
 
 pub band-sum-spec : {M : Type 1} → statement M
 band-sum-spec =
-    tie.close
-    (tie.spec
-    Inv-loop
-    μ-loop
-    returns
-    shared-slice-read-power
-    power-requires
-    add-j
-    loop-holds
-    shared-slice-read-power-2
-    power-requires-2
-    logadd-requires
-    add-j-2
-    loop-less
-    loop-again
+    tie.close (tie.spec Inv-loop μ-loop returns shared-slice-read-power power-requires (λ c. search needs) loop-holds
+    shared-slice-read-power-2 power-requires-2 logadd-requires (λ c. search needs) (λ c. search needs) loop-again
     returns-2)

@@ -30,18 +30,6 @@ loop-holds c =
     let r = bands-rise (a .start) (a .end - 1) (bandOf (a .start)) (bandOf (a .end - 1)) (omega (arith, p .0)) s e in
     (omega arith, omega (arith, p .3, p .4), omega (arith, p .4, e .is), refl, written-none _ (a .first) _)
 
-start-of-requires : tie.Need-start-of-requires Inv-loop μ-loop
-start-of-requires c κs = search needs
-
-later-requires : tie.Need-later-requires Inv-loop μ-loop
-later-requires c κs = search needs
-
-end-of-requires : tie.Need-end-of-requires Inv-loop μ-loop
-end-of-requires c κs = search needs
-
-sooner-requires : tie.Need-sooner-requires Inv-loop μ-loop
-sooner-requires c κs = search needs
-
 band-sum-requires : tie.Need-band-sum-requires Inv-loop μ-loop
 band-sum-requires c κs =
     let p = c .before .before .before .before .before .before .before .pre in
@@ -53,18 +41,6 @@ band-sum-requires c κs =
         low = λ j a b. e .low j (omega (arith, c .before .before .later .ensures)) (omega (arith, c .sooner .ensures));
       },
     )
-
-mul-bnd : tie.Need-mul-bnd Inv-loop μ-loop
-mul-bnd c = search needs
-
-array-write-bnd : tie.Need-array-write-bnd Inv-loop μ-loop
-array-write-bnd c = search needs
-
-add-k : tie.Need-add-k Inv-loop μ-loop
-add-k c = search needs
-
-loop-less : tie.Need-loop-less Inv-loop μ-loop
-loop-less c = search needs
 
 loop-again : tie.Need-loop-again Inv-loop μ-loop
 loop-again c =
@@ -92,19 +68,6 @@ returns c =
 
 pub bands-spec : {M : Type 1} → statement M
 bands-spec =
-    tie.close
-    (tie.spec
-    Inv-loop
-    μ-loop
-    loop-holds
-    start-of-requires
-    later-requires
-    end-of-requires
-    sooner-requires
-    band-sum-requires
-    mul-bnd
-    array-write-bnd
-    add-k
-    loop-less
-    loop-again
-    returns)
+    tie.close (tie.spec Inv-loop μ-loop loop-holds (λ c κs. search needs) (λ c κs. search needs)
+    (λ c κs. search needs) (λ c κs. search needs) band-sum-requires (λ c. search needs) (λ c. search needs)
+    (λ c. search needs) (λ c. search needs) loop-again returns)

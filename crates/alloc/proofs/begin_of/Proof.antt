@@ -3,9 +3,6 @@ use borrow.Author.Tests.{eq-eqb, ne-eqb}
 use Rattle.alloc.proofs.begin_of.Statement.{statement}
 use Rattle.alloc.proofs.begin_of.Tie as tie
 
-decay-from-requires : tie.Need-decay-from-requires
-decay-from-requires c κs = search needs
-
 returns : tie.Need-returns
 returns c = simp (eq-eqb _ _ (c .before .if1 .taken)) (c .decay-from .ensures)
 
@@ -13,4 +10,4 @@ returns-2 : tie.Need-returns-2
 returns-2 c = simp (ne-eqb _ _ (c .if1 .left))
 
 pub begin-of-spec : {M : Type 1} → statement M
-begin-of-spec = tie.close (tie.spec decay-from-requires returns returns-2)
+begin-of-spec = tie.close (tie.spec (λ c κs. search needs) returns returns-2)

@@ -3,15 +3,6 @@ use borrow.Author.Tests.{lt-ltb, le-ltb, eq-eqb, ne-eqb}
 use Rattle.alloc.proofs.calc_lowcomp.Statement.{statement}
 use Rattle.alloc.proofs.calc_lowcomp.Tie as tie
 
-add-if2 : tie.Need-add-if2
-add-if2 c = search needs
-
-less-requires : tie.Need-less-requires
-less-requires c κs = search needs
-
-less-requires-2 : tie.Need-less-requires-2
-less-requires-2 c κs = search needs
-
 returns : tie.Need-returns
 returns c = simp (lt-ltb _ _ (c .before .before .if1 .taken), eq-eqb _ _ (c .before .if2 .taken), lt-ltb _ _ (c .if3 .taken))
 
@@ -29,13 +20,5 @@ returns-5 c = simp (le-ltb _ _ (c .before .if1 .left)) (c .less2 .ensures)
 
 pub calc-lowcomp-spec : {M : Type 1} → statement M
 calc-lowcomp-spec =
-    tie.close
-    (tie.spec
-    add-if2
-    less-requires
-    less-requires-2
-    returns
-    returns-2
-    returns-3
-    returns-4
-    returns-5)
+    tie.close (tie.spec (λ c. search needs) (λ c κs. search needs) (λ c κs. search needs) returns returns-2 returns-3
+    returns-4 returns-5)

@@ -29,12 +29,6 @@ abbrev μ-loop : tie.MeasureT-loop
 loop-holds : tie.Need-loop-holds Inv-loop μ-loop
 loop-holds c = (search needs, search needs, refl)
 
-lfe-last-requires : tie.Need-lfe-last-requires Inv-loop μ-loop
-lfe-last-requires c κs = search needs
-
-add-result : tie.Need-add-result Inv-loop μ-loop
-add-result c = search needs
-
 returns : tie.Need-returns Inv-loop μ-loop
 returns c =
     let at = c .before .before .before in
@@ -44,24 +38,6 @@ returns c =
     let l : lfeLast e b ≡ true = sym (c .before .lfe-last .ensures) ∙ c .if1 .taken in
     sym (at .loop .inv .2 ∙ on bnd e b (omega arith) ∙ simp l)
 
-mul-p : tie.Need-mul-p Inv-loop μ-loop
-mul-p c = search needs
-
-element-copy-out-p : tie.Need-element-copy-out-p Inv-loop μ-loop
-element-copy-out-p c = search needs
-
-add-q : tie.Need-add-q Inv-loop μ-loop
-add-q c = search needs
-
-mul-q : tie.Need-mul-q Inv-loop μ-loop
-mul-q c = search needs
-
-element-copy-out-q : tie.Need-element-copy-out-q Inv-loop μ-loop
-element-copy-out-q c = search needs
-
-add-result-2 : tie.Need-add-result-2 Inv-loop μ-loop
-add-result-2 c = search needs
-
 returns-2 : tie.Need-returns-2 Inv-loop μ-loop
 returns-2 c =
     let at = c .before .before .before .before .before .before in
@@ -70,12 +46,6 @@ returns-2 c =
     let b = at .loop .b in
     let l : lfeLast e b ≡ false = sym (c .before .before .before .before .lfe-last .ensures) ∙ c .before .before .before .if1 .left in
     sym (at .loop .inv .2 ∙ on bnd e b (omega arith) ∙ simp (l, le-leb _ _ (c .if2 .taken)))
-
-add-b : tie.Need-add-b Inv-loop μ-loop
-add-b c = search needs
-
-loop-less : tie.Need-loop-less Inv-loop μ-loop
-loop-less c = search needs
 
 loop-again : tie.Need-loop-again Inv-loop μ-loop
 loop-again c =
@@ -95,22 +65,6 @@ returns-3 c =
 
 pub decay-from-spec : {M : Type 1} → statement M
 decay-from-spec =
-    tie.close
-    (tie.spec
-    Inv-loop
-    μ-loop
-    loop-holds
-    lfe-last-requires
-    add-result
-    returns
-    mul-p
-    element-copy-out-p
-    add-q
-    mul-q
-    element-copy-out-q
-    add-result-2
-    returns-2
-    add-b
-    loop-less
-    loop-again
-    returns-3)
+    tie.close (tie.spec Inv-loop μ-loop loop-holds (λ c κs. search needs) (λ c. search needs) returns
+    (λ c. search needs) (λ c. search needs) (λ c. search needs) (λ c. search needs) (λ c. search needs)
+    (λ c. search needs) returns-2 (λ c. search needs) (λ c. search needs) loop-again returns-3)

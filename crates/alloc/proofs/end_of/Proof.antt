@@ -4,12 +4,6 @@ use borrow.Author.Needs.{needs}
 use Rattle.alloc.proofs.end_of.Statement.{statement}
 use Rattle.alloc.proofs.end_of.Tie as tie
 
-element-copy-out-index : tie.Need-element-copy-out-index
-element-copy-out-index c = search needs
-
-index-requires : tie.Need-index-requires
-index-requires c κs = search needs
-
 returns : tie.Need-returns
 returns c =
     let a = c .before .before .args in
@@ -17,4 +11,4 @@ returns c =
     c .index .ensures .0 ∙ ap (λ t. getD t (a .k) 0) (p .0)
 
 pub end-of-spec : {M : Type 1} → statement M
-end-of-spec = tie.close (tie.spec element-copy-out-index index-requires returns)
+end-of-spec = tie.close (tie.spec (λ c. search needs) (λ c κs. search needs) returns)

@@ -3,12 +3,6 @@ use borrow.Author.Tests.{lt-ltb, le-ltb}
 use Rattle.alloc.proofs.excited.Statement.{statement}
 use Rattle.alloc.proofs.excited.Tie as tie
 
-less-requires : tie.Need-less-requires
-less-requires c κs = search needs
-
-larger-requires : tie.Need-larger-requires
-larger-requires c κs = search needs
-
 returns : tie.Need-returns
 returns c = simp (lt-ltb _ _ (c .if1 .taken)) (c .before .less .ensures)
 
@@ -16,4 +10,4 @@ returns-2 : tie.Need-returns-2
 returns-2 c = simp (le-ltb _ _ (c .before .if1 .left), ← c .before .before .less .ensures) (c .larger .ensures)
 
 pub excited-spec : {M : Type 1} → statement M
-excited-spec = tie.close (tie.spec less-requires larger-requires returns returns-2)
+excited-spec = tie.close (tie.spec (λ c κs. search needs) (λ c κs. search needs) returns returns-2)

@@ -4,24 +4,6 @@ use Rattle.alloc.specs.Levels.{maskedL}
 use Rattle.alloc.proofs.finish.Statement.{statement}
 use Rattle.alloc.proofs.finish.Tie as tie
 
-less-requires : tie.Need-less-requires
-less-requires c κs = search needs
-
-add-larger : tie.Need-add-larger
-add-larger c = search needs
-
-hearing-at-requires : tie.Need-hearing-at-requires
-hearing-at-requires c κs = search needs
-
-larger-requires : tie.Need-larger-requires
-larger-requires c κs = search needs
-
-shifted-requires : tie.Need-shifted-requires
-shifted-requires c κs = search needs
-
-stepped-requires : tie.Need-stepped-requires
-stepped-requires c κs = search needs
-
 returns : tie.Need-returns
 returns c =
     let a = c .before .before .before .before .before .args in
@@ -32,12 +14,5 @@ returns c =
 
 pub finish-spec : {M : Type 1} → statement M
 finish-spec =
-    tie.close
-    (tie.spec
-    less-requires
-    add-larger
-    hearing-at-requires
-    larger-requires
-    shifted-requires
-    stepped-requires
-    returns)
+    tie.close (tie.spec (λ c κs. search needs) (λ c. search needs) (λ c κs. search needs) (λ c κs. search needs)
+    (λ c κs. search needs) (λ c κs. search needs) returns)

@@ -7,21 +7,6 @@ use borrow.Author.Needs.{needs}
 use Rattle.alloc.proofs.hearing_at.Statement.{statement}
 use Rattle.alloc.proofs.hearing_at.Tie as tie
 
-mul-i : tie.Need-mul-i
-mul-i c = search needs
-
-add-i : tie.Need-add-i
-add-i c = search needs
-
-mul-wide16 : tie.Need-mul-wide16
-mul-wide16 c = search needs
-
-element-copy-out-wide16 : tie.Need-element-copy-out-wide16
-element-copy-out-wide16 c = search needs
-
-wide16-requires : tie.Need-wide16-requires
-wide16-requires c κs = search needs
-
 add-result : tie.Need-add-result
 add-result c =
     let a = c .before .before .args in
@@ -38,5 +23,5 @@ returns c =
 
 pub hearing-at-spec : {M : Type 1} → statement M
 hearing-at-spec =
-    tie.close
-    (tie.spec mul-i add-i mul-wide16 element-copy-out-wide16 wide16-requires add-result returns)
+    tie.close (tie.spec (λ c. search needs) (λ c. search needs) (λ c. search needs) (λ c. search needs)
+    (λ c κs. search needs) add-result returns)

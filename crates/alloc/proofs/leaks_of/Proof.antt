@@ -3,12 +3,6 @@ use borrow.Author.Needs.{needs}
 use Rattle.alloc.proofs.leaks_of.Statement.{statement}
 use Rattle.alloc.proofs.leaks_of.Tie as tie
 
-enum-told : tie.Need-enum-told
-enum-told c = search needs
-
-enum-known-l : tie.Need-enum-known-l
-enum-known-l c = search needs
-
 add-t5 : tie.Need-add-t5
 add-t5 c = fast-fits _ _ _ (c .before .l .given .1) (c .before .before .before .pre)
 
@@ -22,4 +16,4 @@ returns-2 : tie.Need-returns-2
 returns-2 c = leaks-pair _ _ _ (c .before .l .given .1) (c .before .before .before .pre)
 
 pub leaks-of-spec : {M : Type 1} → statement M
-leaks-of-spec = tie.close (tie.spec enum-told enum-known-l add-t5 add-t6 returns returns-2)
+leaks-of-spec = tie.close (tie.spec (λ c. search needs) (λ c. search needs) add-t5 add-t6 returns returns-2)

@@ -7,21 +7,6 @@ use Rattle.alloc.proofs.LogSums.{logadd-bound}
 use Rattle.alloc.proofs.logadd.Statement.{statement}
 use Rattle.alloc.proofs.logadd.Tie as tie
 
-log-at-requires : tie.Need-log-at-requires
-log-at-requires c κs = search needs
-
-add-result : tie.Need-add-result
-add-result c = search needs
-
-sub-log-at : tie.Need-sub-log-at
-sub-log-at c = search needs
-
-log-at-requires-2 : tie.Need-log-at-requires-2
-log-at-requires-2 c κs = search needs
-
-add-result-2 : tie.Need-add-result-2
-add-result-2 c = search needs
-
 -- the result is the definition's sum, whose bound the table's rule gives
 bounded : (a b r : ℕ) → r ≡ logaddL a b → LogSum a b r
 bounded a b r e = rw e (logadd-bound a b)
@@ -48,5 +33,5 @@ returns-2 c =
 
 pub logadd-spec : {M : Type 1} → statement M
 logadd-spec =
-    tie.close
-    (tie.spec log-at-requires add-result sub-log-at log-at-requires-2 add-result-2 returns returns-2)
+    tie.close (tie.spec (λ c κs. search needs) (λ c. search needs) (λ c. search needs) (λ c κs. search needs)
+    (λ c. search needs) returns returns-2)

@@ -18,9 +18,6 @@ Inv-loop hth bnd g q d first last begin out₀ s₀ b₀ out s b =
 abbrev μ-loop : tie.MeasureT-loop
 μ-loop hth bnd g q d first last begin out₀ s₀ b₀ out s b = last - b
 
-begin-of-requires : tie.Need-begin-of-requires Inv-loop μ-loop
-begin-of-requires c κs = search needs
-
 loop-holds : tie.Need-loop-holds Inv-loop μ-loop
 loop-holds c =
     let a = c .before .args in
@@ -34,15 +31,6 @@ loop-holds c =
 
 pass-requires : tie.Need-pass-requires Inv-loop μ-loop
 pass-requires c κs = (search needs, λ k. omega (arith, c .before .before .before .pre .0 .3 k))
-
-excited-requires : tie.Need-excited-requires Inv-loop μ-loop
-excited-requires c κs = search needs
-
-mul-p : tie.Need-mul-p Inv-loop μ-loop
-mul-p c = search needs
-
-element-copy-out-p : tie.Need-element-copy-out-p Inv-loop μ-loop
-element-copy-out-p c = search needs
 
 finish-requires : tie.Need-finish-requires Inv-loop μ-loop
 finish-requires c κs =
@@ -59,18 +47,6 @@ finish-requires c κs =
       p .1 .1,
       p .1 .2,
     )
-
-mul-out : tie.Need-mul-out Inv-loop μ-loop
-mul-out c = search needs
-
-array-write-out : tie.Need-array-write-out Inv-loop μ-loop
-array-write-out c = search needs
-
-add-b : tie.Need-add-b Inv-loop μ-loop
-add-b c = search needs
-
-loop-less : tie.Need-loop-less Inv-loop μ-loop
-loop-less c = search needs
 
 loop-again : tie.Need-loop-again Inv-loop μ-loop
 loop-again c =
@@ -102,20 +78,6 @@ returns c =
 
 pub masks-spec : {M : Type 1} → statement M
 masks-spec =
-    tie.close
-    (tie.spec
-    Inv-loop
-    μ-loop
-    begin-of-requires
-    loop-holds
-    pass-requires
-    excited-requires
-    mul-p
-    element-copy-out-p
-    finish-requires
-    mul-out
-    array-write-out
-    add-b
-    loop-less
-    loop-again
-    returns)
+    tie.close (tie.spec Inv-loop μ-loop (λ c κs. search needs) loop-holds pass-requires (λ c κs. search needs)
+    (λ c. search needs) (λ c. search needs) finish-requires (λ c. search needs) (λ c. search needs)
+    (λ c. search needs) (λ c. search needs) loop-again returns)

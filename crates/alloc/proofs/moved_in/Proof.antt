@@ -3,9 +3,6 @@ use borrow.Author.Tests.{lt-ltb, le-ltb, le-leb, lt-leb}
 use Rattle.alloc.proofs.moved_in.Statement.{statement}
 use Rattle.alloc.proofs.moved_in.Tie as tie
 
-moved-requires : tie.Need-moved-requires
-moved-requires c κs = search needs
-
 returns : tie.Need-returns
 returns c = (simp (le-leb _ _ (c .before .before .if1 .taken), lt-ltb _ _ (c .before .if2 .taken)) (c .moved .ensures .0), c .moved .ensures .1)
 
@@ -16,4 +13,4 @@ returns-3 : tie.Need-returns-3
 returns-3 c = (simp (lt-leb _ _ (c .if1 .left)), search needs)
 
 pub moved-in-spec : {M : Type 1} → statement M
-moved-in-spec = tie.close (tie.spec moved-requires returns returns-2 returns-3)
+moved-in-spec = tie.close (tie.spec (λ c κs. search needs) returns returns-2 returns-3)

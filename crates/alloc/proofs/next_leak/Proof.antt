@@ -3,18 +3,6 @@ use borrow.Author.Tests.{lt-ltb, le-ltb}
 use Rattle.alloc.proofs.next_leak.Statement.{statement}
 use Rattle.alloc.proofs.next_leak.Tie as tie
 
-less-requires : tie.Need-less-requires
-less-requires c κs = search needs
-
-less-requires-2 : tie.Need-less-requires-2
-less-requires-2 c κs = search needs
-
-less-requires-3 : tie.Need-less-requires-3
-less-requires-3 c κs = search needs
-
-larger-requires : tie.Need-larger-requires
-larger-requires c κs = search needs
-
 returns : tie.Need-returns
 returns c = simp (lt-ltb _ _ (c .before .if1 .taken)) (c .less .ensures)
 
@@ -23,5 +11,5 @@ returns-2 c = simp (le-ltb _ _ (c .before .before .before .if1 .left), ← c .be
 
 pub next-leak-spec : {M : Type 1} → statement M
 next-leak-spec =
-    tie.close
-    (tie.spec less-requires less-requires-2 less-requires-3 larger-requires returns returns-2)
+    tie.close (tie.spec (λ c κs. search needs) (λ c κs. search needs) (λ c κs. search needs) (λ c κs. search needs)
+    returns returns-2)

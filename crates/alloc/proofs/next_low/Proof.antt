@@ -9,26 +9,8 @@ returns c = simp (ne-eqb _ _ (c .if1 .taken))
 returns-2 : tie.Need-returns-2
 returns-2 c = simp (eq-eqb _ _ (c .before .if1 .left), le-ltb _ _ (c .if2 .taken))
 
-lfe-last-requires : tie.Need-lfe-last-requires
-lfe-last-requires c κs = search needs
-
 returns-3 : tie.Need-returns-3
 returns-3 c = simp (eq-eqb _ _ (c .before .before .before .if1 .left), lt-ltb _ _ (c .before .before .if2 .left), ← c .before .lfe-last .ensures, c .if3 .taken)
-
-mul-p : tie.Need-mul-p
-mul-p c = search needs
-
-element-copy-out-p : tie.Need-element-copy-out-p
-element-copy-out-p c = search needs
-
-add-q : tie.Need-add-q
-add-q c = search needs
-
-mul-q : tie.Need-mul-q
-mul-q c = search needs
-
-element-copy-out-q : tie.Need-element-copy-out-q
-element-copy-out-q c = search needs
 
 calc-lowcomp-requires : tie.Need-calc-lowcomp-requires
 calc-lowcomp-requires c κs = c .before .before .before .before .before .before .pre (c .before .before .before .before .before .before .args .b)
@@ -38,16 +20,5 @@ returns-4 c = simp (eq-eqb _ _ (c .before .before .before .before .before .befor
 
 pub next-low-spec : {M : Type 1} → statement M
 next-low-spec =
-    tie.close
-    (tie.spec
-    returns
-    returns-2
-    lfe-last-requires
-    returns-3
-    mul-p
-    element-copy-out-p
-    add-q
-    mul-q
-    element-copy-out-q
-    calc-lowcomp-requires
-    returns-4)
+    tie.close (tie.spec returns returns-2 (λ c κs. search needs) returns-3 (λ c. search needs) (λ c. search needs)
+    (λ c. search needs) (λ c. search needs) (λ c. search needs) calc-lowcomp-requires returns-4)

@@ -29,9 +29,6 @@ loop-holds c =
 end-of-requires : tie.Need-end-of-requires Inv-loop μ-loop
 end-of-requires c κs = (c .before .before .before .before .pre .0 .0, c .before .loop .inv .2 (c .loop-test .taken) .is)
 
-sooner-requires : tie.Need-sooner-requires Inv-loop μ-loop
-sooner-requires c κs = search needs
-
 mul-m : tie.Need-mul-m Inv-loop μ-loop
 mul-m c =
     let b = c .before .before .before .loop .inv .2 (c .before .before .loop-test .taken) in
@@ -97,18 +94,5 @@ returns c =
 
 pub point-bands-spec : {M : Type 1} → statement M
 point-bands-spec =
-    tie.close
-    (tie.spec
-    Inv-loop
-    μ-loop
-    loop-holds
-    end-of-requires
-    sooner-requires
-    mul-m
-    element-copy-out-m
-    point-requires
-    add-k
-    loop-less
-    loop-again
-    same-length
-    returns)
+    tie.close (tie.spec Inv-loop μ-loop loop-holds end-of-requires (λ c κs. search needs) mul-m element-copy-out-m
+    point-requires add-k loop-less loop-again same-length returns)

@@ -19,36 +19,6 @@ loop-holds : tie.Need-loop-holds Inv-loop μ-loop
 unfolding counter deltaedL
 loop-holds c = (search needs, search needs, search needs, refl, refl, search needs)
 
-element-copy-out-index : tie.Need-element-copy-out-index Inv-loop μ-loop
-element-copy-out-index c = search needs
-
-index-requires : tie.Need-index-requires Inv-loop μ-loop
-index-requires c κs = search needs
-
-add-from : tie.Need-add-from Inv-loop μ-loop
-add-from c = search needs
-
-element-copy-out-index-2 : tie.Need-element-copy-out-index-2 Inv-loop μ-loop
-element-copy-out-index-2 c = search needs
-
-index-requires-2 : tie.Need-index-requires-2 Inv-loop μ-loop
-index-requires-2 c κs = search needs
-
-add-band : tie.Need-add-band Inv-loop μ-loop
-add-band c = search needs
-
-element-copy-out-moved-in : tie.Need-element-copy-out-moved-in Inv-loop μ-loop
-element-copy-out-moved-in c = search needs
-
-moved-in-requires : tie.Need-moved-in-requires Inv-loop μ-loop
-moved-in-requires c κs = search needs
-
-add-i : tie.Need-add-i Inv-loop μ-loop
-add-i c = search needs
-
-loop-less : tie.Need-loop-less Inv-loop μ-loop
-loop-less c = search needs
-
 loop-again : tie.Need-loop-again Inv-loop μ-loop
 unfolding counter deltaedL
 loop-again c =
@@ -76,20 +46,6 @@ returns c =
 
 pub shifted-spec : {M : Type 1} → statement M
 shifted-spec =
-    tie.close
-    (tie.spec
-    Inv-loop
-    μ-loop
-    loop-holds
-    element-copy-out-index
-    index-requires
-    add-from
-    element-copy-out-index-2
-    index-requires-2
-    add-band
-    element-copy-out-moved-in
-    moved-in-requires
-    add-i
-    loop-less
-    loop-again
-    returns)
+    tie.close (tie.spec Inv-loop μ-loop loop-holds (λ c. search needs) (λ c κs. search needs) (λ c. search needs)
+    (λ c. search needs) (λ c κs. search needs) (λ c. search needs) (λ c. search needs) (λ c κs. search needs)
+    (λ c. search needs) (λ c. search needs) loop-again returns)

@@ -5,33 +5,6 @@ use borrow.Author.Needs.{needs}
 use Rattle.alloc_host.proofs.alloc_by_codes.Statement.{statement}
 use Rattle.alloc_host.proofs.alloc_by_codes.Tie as tie
 
-log-add-requires : tie.Need-log-add-requires
-log-add-requires c κs = search needs
-
-masktab-requires : tie.Need-masktab-requires
-masktab-requires c κs = search needs
-
-band-end-requires : tie.Need-band-end-requires
-band-end-requires c κs = search needs
-
-hearing-requires : tie.Need-hearing-requires
-hearing-requires c κs = search needs
-
-pointers-requires : tie.Need-pointers-requires
-pointers-requires c κs = search needs
-
-fast-gain-requires : tie.Need-fast-gain-requires
-fast-gain-requires c κs = search needs
-
-params-of-requires : tie.Need-params-of-requires
-params-of-requires c κs = search needs
-
-leak-by-requires : tie.Need-leak-by-requires
-leak-by-requires c κs = search needs
-
-pointers-of-requires : tie.Need-pointers-of-requires
-pointers-of-requires c κs = search needs
-
 allocate-requires : tie.Need-allocate-requires
 allocate-requires c κs =
     let a = c .before .before .before .before .before .before .before .before .before .before .before .before .before .before .before .before .before .before .before .before .args in
@@ -60,25 +33,11 @@ allocate-requires c κs =
       ),
     )
 
-same-length : tie.Need-same-length
-same-length c = search needs
-
 returns : tie.Need-returns
 returns c = rw (c .before .before .before .before .before .before .before .before .before .pointers-of .ensures, c .before .before .before .before .before .before .before .before .before .before .before .before .before .before .before .fast-gain .ensures, c .before .before .before .before .before .before .before .before .before .before .before .before .before .before .params-of .ensures, c .before .before .before .before .before .before .before .before .before .before .before .before .before .leak-by .ensures) at (c .before .before .allocate .ensures)
 
 pub alloc-by-codes-spec : {M : Type 1} → statement M
 alloc-by-codes-spec =
-    tie.close
-    (tie.spec
-    log-add-requires
-    masktab-requires
-    band-end-requires
-    hearing-requires
-    pointers-requires
-    fast-gain-requires
-    params-of-requires
-    leak-by-requires
-    pointers-of-requires
-    allocate-requires
-    same-length
-    returns)
+    tie.close (tie.spec (λ c κs. search needs) (λ c κs. search needs) (λ c κs. search needs) (λ c κs. search needs)
+    (λ c κs. search needs) (λ c κs. search needs) (λ c κs. search needs) (λ c κs. search needs) (λ c κs. search needs)
+    allocate-requires (λ c. search needs) returns)

@@ -3,12 +3,9 @@ use Rattle.tables.specs.BitAllocation.{fastdec}
 use Rattle.tables.proofs.fast_decay.Statement.{statement}
 use Rattle.tables.proofs.fast_decay.Tie as tie
 
-of-four-requires : tie.Need-of-four-requires
-of-four-requires c κs = search needs
-
 returns : tie.Need-returns
 unfolding fastdec
 returns c = search needs
 
 pub fast-decay-spec : {M : Type 1} → statement M
-fast-decay-spec = tie.close (tie.spec of-four-requires returns)
+fast-decay-spec = tie.close (tie.spec (λ c κs. search needs) returns)

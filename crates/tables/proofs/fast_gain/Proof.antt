@@ -3,12 +3,9 @@ use Rattle.tables.specs.BitAllocation.{fastgain}
 use Rattle.tables.proofs.fast_gain.Statement.{statement}
 use Rattle.tables.proofs.fast_gain.Tie as tie
 
-of-eight-requires : tie.Need-of-eight-requires
-of-eight-requires c κs = search needs
-
 returns : tie.Need-returns
 unfolding fastgain
 returns c = search needs
 
 pub fast-gain-spec : {M : Type 1} → statement M
-fast-gain-spec = tie.close (tie.spec of-eight-requires returns)
+fast-gain-spec = tie.close (tie.spec (λ c κs. search needs) returns)

@@ -7,12 +7,6 @@ use Rattle.tables.specs.BitAllocation.{floortab}
 use Rattle.tables.proofs.floor.Statement.{statement}
 use Rattle.tables.proofs.floor.Tie as tie
 
-mul-result : tie.Need-mul-result
-mul-result c = search needs
-
-array-copy-out-result : tie.Need-array-copy-out-result
-array-copy-out-result c = search needs
-
 returns : tie.Need-returns
 unfolding floortab
 returns c = search needs
@@ -22,4 +16,4 @@ unfolding floortab
 returns-2 c = sym (List·getD-eq-default floortab (pos 0) {n = c .before .args .floorcod} (omega arith))
 
 pub floor-spec : {M : Type 1} → statement M
-floor-spec = tie.close (tie.spec mul-result array-copy-out-result returns returns-2)
+floor-spec = tie.close (tie.spec (λ c. search needs) (λ c. search needs) returns returns-2)

@@ -5,22 +5,11 @@ use lib.ListN.{List·getD-eq-default}
 use Rattle.tables.proofs.of_four.Statement.{statement}
 use Rattle.tables.proofs.of_four.Tie as tie
 
-mul-wide : tie.Need-mul-wide
-mul-wide c = search needs
-
-array-read-wide : tie.Need-array-read-wide
-array-read-wide c = search needs
-
-wide-requires : tie.Need-wide-requires
-wide-requires c κs = search needs
-
-returns : tie.Need-returns
-returns c = search needs
-
 returns-2 : tie.Need-returns-2
 returns-2 c =
     let a = c .before .args in
     sym (List·getD-eq-default (a .t1) 0 {n = a .code} (omega arith))
 
 pub of-four-spec : {M : Type 1} → statement M
-of-four-spec = tie.close (tie.spec mul-wide array-read-wide wide-requires returns returns-2)
+of-four-spec =
+    tie.close (tie.spec (λ c. search needs) (λ c. search needs) (λ c κs. search needs) (λ c. search needs) returns-2)

@@ -3,12 +3,9 @@ use Rattle.tables.specs.BitAllocation.{slowdec}
 use Rattle.tables.proofs.slow_decay.Statement.{statement}
 use Rattle.tables.proofs.slow_decay.Tie as tie
 
-of-four-requires : tie.Need-of-four-requires
-of-four-requires c κs = search needs
-
 returns : tie.Need-returns
 unfolding slowdec
 returns c = search needs
 
 pub slow-decay-spec : {M : Type 1} → statement M
-slow-decay-spec = tie.close (tie.spec of-four-requires returns)
+slow-decay-spec = tie.close (tie.spec (λ c κs. search needs) returns)

@@ -1,0 +1,3 @@
+pub mod StateLaws
+pub mod MemoLaws
+pub mod Unmet

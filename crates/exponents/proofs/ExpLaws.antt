@@ -1,0 +1,202 @@
+-- Laws of exponents: of putting and spreading them, and the sizes of groups. Assumes nothing.
+use mathlib.Core.Path.{_≡_, refl, ap, sym, _∙_}
+use mathlib.Core.Bool.{Bool, true, false, _&&_, cond}
+use mathlib.Core.List.{List}
+use Prim.Native.Nat.{ℕ, zero, suc, _+_, _-_, _*_, _/_, _%_, _≤_, _<_}
+use native.Mathlib.Omega.{arith}
+use lib.Dec.{ltb, leb, eqb}
+use native.Mathlib.Decide.{ℕ-discrete}
+use lib.ListN.{length, getD, set, length-set}
+use lib.Seq.{getD-set-same, getD-set-other}
+use borrow.Author.Tests.{lt-ltb, le-ltb, eq-eqb, ne-eqb, leb-true, ltb-true}
+use Rattle.slots.specs.Held.{Held}
+use Rattle.slots.proofs.Tests.{both}
+use Rattle.slots.specs.Slots.{CPL, LFE}
+use Rattle.exponents.specs.Exponents.{nextOf, onTo, decodeOf, groupsOf, putOf, spreadOf, laidOf, sizeOf}
+use Rattle.exponents.specs.declared.Group.{Group}
+use Rattle.exponents.specs.declared.Group.the-variants.{Refused, Moved}
+use Rattle.exponents.specs.declared.Next.{Next}
+use Rattle.exponents.specs.declared.Next.the-variants.{Outside, To}
+
+-- what a group comes to, by the first of its three exponents that leaves the range
+module _ (prev grp : ℕ) (n : Next) (e : n ≡ nextOf prev (grp / 25)) (h : grp ≤ 124) where
+  pub decode-first : n ≡ Outside → Refused 27 ≡ decodeOf prev grp
+  unfolding decodeOf
+  decode-first f = rw (le-ltb 124 grp h, ← e, f)
+
+  module _ (a : ℕ) (f : n ≡ To a) (m : Next) (g : m ≡ nextOf a (grp % 25 / 5)) where
+    pub decode-second : m ≡ Outside → Refused 27 ≡ decodeOf prev grp
+    unfolding decodeOf
+    decode-second i = rw (le-ltb 124 grp h, ← e, f, ← g, i)
+
+    module _ (b : ℕ) (i : m ≡ To b) (l : Next) (j : l ≡ nextOf b (grp % 5)) where
+      pub decode-third : l ≡ Outside → Refused 27 ≡ decodeOf prev grp
+      unfolding decodeOf
+      decode-third k = rw (le-ltb 124 grp h, ← e, f, ← g, i, ← j, k)
+
+      pub decode-moved : (c : ℕ) → l ≡ To c → Moved a b c ≡ decodeOf prev grp
+      unfolding decodeOf
+      decode-moved c k = rw (le-ltb 124 grp h, ← e, f, ← g, i, ← j, k)
+
+length-cond : (t : Bool) (x y : List ℕ) (n : ℕ) → length x ≡ n → length y ≡ n → length (cond t x y) ≡ n
+length-cond true x y n a b = a
+length-cond false x y n a b = b
+
+pub put-length : (bins : List ℕ) (slot bin e : ℕ) → length (putOf bins slot bin e) ≡ length bins
+unfolding putOf
+put-length bins slot bin e = length-cond (ltb slot 7 && ltb bin 256) (set bins (256 * slot + bin) e) bins (length bins) (length-set bins (256 * slot + bin) e) refl
+
+pub spread-length : (bins : List ℕ) (slot bin n e : ℕ) → length (spreadOf bins slot bin n e) ≡ length bins
+unfolding spreadOf
+spread-length bins slot bin zero e = refl
+spread-length bins slot bin (suc n) e = spread-length (putOf bins slot bin e) slot (suc bin) n e ∙ put-length bins slot bin e
+
+-- one exponent for one, two and four bins
+pub put-one : (bins : List ℕ) (slot bin e : ℕ) {x : List ℕ} → x ≡ putOf bins slot bin e → x ≡ spreadOf bins slot bin 1 e
+unfolding spreadOf
+put-one bins slot bin e f = f
+
+pub put-two : (bins : List ℕ) (slot bin e : ℕ) {x y : List ℕ} → x ≡ putOf bins slot bin e → y ≡ putOf x slot (bin + 1) e → y ≡ spreadOf bins slot bin 2 e
+unfolding spreadOf
+put-two bins slot bin e f g = let z : bin + 1 ≡ suc bin = omega arith in g ∙ rw (f, z)
+
+pub put-four : (bins : List ℕ) (slot bin e : ℕ) {x y : List ℕ} → x ≡ spreadOf bins slot bin 2 e → y ≡ spreadOf x slot (bin + 2) 2 e → y ≡ spreadOf bins slot bin 4 e
+unfolding spreadOf
+put-four bins slot bin e f g = let z : bin + 2 ≡ suc (suc bin) = omega arith in g ∙ rw (f, z)
+
+-- the same of bins that the slot has
+put-in : (bins : List ℕ) (slot bin e i : ℕ) → slot < 7 → bin < 256 → i ≡ 256 * slot + bin → set bins i e ≡ putOf bins slot bin e
+unfolding putOf
+put-in bins slot bin e i h k q = rw (q, lt-ltb slot 7 h, lt-ltb bin 256 k)
+
+module _ (bins : List ℕ) (slot bin e i : ℕ) (h : slot < 7) (q : i ≡ 256 * slot + bin) where
+  pub set-one : bin < 256 → set bins i e ≡ spreadOf bins slot bin 1 e
+  set-one k = put-one bins slot bin e (put-in bins slot bin e i h k q)
+
+  pub set-two : bin + 1 < 256 → set (set bins i e) (i + 1) e ≡ spreadOf bins slot bin 2 e
+  set-two k =
+      put-two bins slot bin e (put-in bins slot bin e i h (omega arith) q)
+      (put-in (set bins i e) slot (bin + 1) e (i + 1) h (omega arith) (omega arith))
+
+pub set-four : (bins : List ℕ) (slot bin e i : ℕ) → slot < 7 → i ≡ 256 * slot + bin → bin + 3 < 256
+    → set (set (set (set bins i e) (i + 1) e) (i + 2) e) (i + 3) e ≡ spreadOf bins slot bin 4 e
+set-four bins slot bin e i h q k =
+    let f : i + 2 + 1 ≡ i + 3 = omega arith in
+    put-four bins slot bin e (set-two bins slot bin e i h q (omega arith))
+    (rw f at (set-two (set (set bins i e) (i + 1) e) slot (bin + 2) e (i + 2) h (omega arith) (omega arith)))
+
+-- grpsize by the strategy
+pub size-d45 : {strategy : ℕ} → strategy ≡ 3 → sizeOf strategy ≡ 4
+unfolding sizeOf
+size-d45 h = rw (eq-eqb _ 3 h)
+
+pub size-d25 : {strategy : ℕ} → (strategy ≡ 3 → ⊥) → strategy ≡ 2 → sizeOf strategy ≡ 2
+unfolding sizeOf
+size-d25 n h = rw (ne-eqb _ 3 n, eq-eqb _ 2 h)
+
+pub size-d15 : {strategy : ℕ} → (strategy ≡ 3 → ⊥) → (strategy ≡ 2 → ⊥) → sizeOf strategy ≡ 1
+unfolding sizeOf
+size-d15 n h = rw (ne-eqb _ 3 n, ne-eqb _ 2 h)
+
+-- three spreads are a group
+pub laid-by : (bins x y z : List ℕ) (slot bin size strategy a b c : ℕ) → size ≡ sizeOf strategy
+    → x ≡ spreadOf bins slot bin (sizeOf strategy) a → y ≡ spreadOf x slot (bin + size) (sizeOf strategy) b → z ≡ spreadOf y slot (bin + 2 * size) (sizeOf strategy) c
+    → z ≡ laidOf bins slot (sizeOf strategy) bin a b c
+unfolding laidOf
+laid-by bins x y z slot bin size strategy a b c e f g h = h ∙ rw (g, f, e)
+
+-- exponents that come out of a group lie from 0 to 24, and putting such exponents keeps the bins held
+next-to : (t : Bool) (x e : ℕ) → cond t (To x) Outside ≡ To e → (t ≡ true) × (x ≡ e)
+next-to true x e q = (refl, cc)
+next-to false x e q = let z : _≡_ {A = ℕ} 0 1 = cc in absurd (let w : ⊥ = omega arith in w)
+
+pub next-low : (prev m e : ℕ) → nextOf prev m ≡ To e → e ≤ 24
+unfolding nextOf
+next-low prev m e q =
+    let n = next-to (leb 2 (prev + m) && leb (prev + m) 26) (prev + m - 2) e q in
+    let h = leb-true (prev + m) 26 (both (leb 2 (prev + m)) (leb (prev + m) 26) (n .0) .1) in
+    omega (arith, n .1)
+
+-- the three of a group
+pub record Low (a b c : ℕ) : Type 0 where
+  pub first : a ≤ 24
+  pub second : b ≤ 24
+  pub third : c ≤ 24
+
+module _ (a b c : ℕ) where
+  past-high : (t : Bool) (g : Group) → cond t (Refused 11) g ≡ Moved a b c → g ≡ Moved a b c
+  past-high true g q = cc
+  past-high false g q = q
+
+  through : (n : Next) (k : ℕ → Group) → ((e : ℕ) → n ≡ To e → k e ≡ Moved a b c → Low a b c) → onTo n k ≡ Moved a b c → Low a b c
+  through Outside k f q = let z : _≡_ {A = ℕ} 0 1 = cc in absurd (let w : ⊥ = omega arith in w)
+  through (To e) k f q = f e refl q
+
+  ends : (x y z : ℕ) → x ≤ 24 → y ≤ 24 → z ≤ 24 → Moved x y z ≡ Moved a b c → Low a b c
+  ends x y z hx hy hz q =
+      let ex : x ≡ a = cc in
+      let ey : y ≡ b = cc in
+      let ez : z ≡ c = cc in
+      record { first = omega arith; second = omega arith; third = omega arith }
+
+  pub decode-low : (prev grp : ℕ) → decodeOf prev grp ≡ Moved a b c → Low a b c
+  unfolding decodeOf
+  decode-low prev grp q =
+      through (nextOf prev (grp / 25)) (λ x. onTo (nextOf x (grp % 25 / 5)) (λ y. onTo (nextOf y (grp % 5)) (λ z. Moved x y z)))
+      (λ x ex. through (nextOf x (grp % 25 / 5)) (λ y. onTo (nextOf y (grp % 5)) (λ z. Moved x y z))
+      (λ y ey. through (nextOf y (grp % 5)) (λ z. Moved x y z)
+      (λ z ez. ends x y z (next-low prev (grp / 25) x ex) (next-low x (grp % 25 / 5) y ey) (next-low y (grp % 5) z ez))))
+      (past-high (ltb 124 grp) (onTo (nextOf prev (grp / 25)) (λ x. onTo (nextOf x (grp % 25 / 5)) (λ y. onTo (nextOf y (grp % 5)) (λ z. Moved x y z)))) q)
+
+module _ (bins : List ℕ) (held : Held bins) where
+  at-put : (slot bin e : ℕ) → e ≤ 24 → slot < 7 → bin < 256 → (k : ℕ) → k < 1792 → Dec (k ≡ 256 * slot + bin) → getD (set bins (256 * slot + bin) e) k 0 ≤ 24
+  at-put slot bin e h s b k l (yes q) = rw (q, getD-set-same bins (256 * slot + bin) e 0 (let z : 256 * slot + bin < length bins = omega (arith, held .size) in z)) h
+  at-put slot bin e h s b k l (no q) = rw (getD-set-other bins (256 * slot + bin) k e 0 q) (held .exps k l)
+
+  pub put-held : (slot bin e : ℕ) → e ≤ 24 → Held (putOf bins slot bin e)
+  unfolding putOf
+  put-held slot bin e h = go (ltb slot 7 && ltb bin 256) refl
+    where
+      go : (t : Bool) → ltb slot 7 && ltb bin 256 ≡ t → Held (cond t (set bins (256 * slot + bin) e) bins)
+      go true q =
+          let p = both (ltb slot 7) (ltb bin 256) q in
+          record {
+            size = length-set bins (256 * slot + bin) e ∙ held .size;
+            exps = λ k l. at-put slot bin e h (ltb-true slot 7 (p .0)) (ltb-true bin 256 (p .1)) k l (ℕ-discrete k (256 * slot + bin));
+          }
+      go false q = held
+
+pub spread-held : (bins : List ℕ) (slot bin n e : ℕ) → Held bins → e ≤ 24 → Held (spreadOf bins slot bin n e)
+unfolding spreadOf
+spread-held bins slot bin zero e held h = held
+spread-held bins slot bin (suc n) e held h = spread-held (putOf bins slot bin e) slot (suc bin) n e (put-held bins held slot bin e h) h
+
+pub laid-held : (bins : List ℕ) (slot size bin a b c : ℕ) → Held bins → a ≤ 24 → b ≤ 24 → c ≤ 24 → Held (laidOf bins slot size bin a b c)
+unfolding laidOf
+laid-held bins slot size bin a b c held ha hb hc =
+    spread-held (spreadOf (spreadOf bins slot bin size a) slot (bin + size) size b) slot (bin + 2 * size) size c
+    (spread-held (spreadOf bins slot bin size a) slot (bin + size) size b (spread-held bins slot bin size a held ha) hb) hc
+
+-- exponents lie below the pointers
+pub put-high : (bins : List ℕ) (slot bin e k : ℕ) → 1792 ≤ k → getD (putOf bins slot bin e) k 0 ≡ getD bins k 0
+unfolding putOf
+put-high bins slot bin e k h = go (ltb slot 7 && ltb bin 256) refl
+  where
+    go : (t : Bool) → ltb slot 7 && ltb bin 256 ≡ t → getD (cond t (set bins (256 * slot + bin) e) bins) k 0 ≡ getD bins k 0
+    go true q =
+        let p = both (ltb slot 7) (ltb bin 256) q in
+        let l = ltb-true slot 7 (p .0) in
+        let m = ltb-true bin 256 (p .1) in
+        getD-set-other bins (256 * slot + bin) k e 0 (let z : k ≡ 256 * slot + bin → ⊥ = omega arith in z)
+    go false q = refl
+
+spread-high : (bins : List ℕ) (slot bin n e k : ℕ) → 1792 ≤ k → getD (spreadOf bins slot bin n e) k 0 ≡ getD bins k 0
+unfolding spreadOf
+spread-high bins slot bin zero e k h = refl
+spread-high bins slot bin (suc n) e k h = spread-high (putOf bins slot bin e) slot (suc bin) n e k h ∙ put-high bins slot bin e k h
+
+pub laid-high : (bins : List ℕ) (slot size bin a b c k : ℕ) → 1792 ≤ k → getD (laidOf bins slot size bin a b c) k 0 ≡ getD bins k 0
+unfolding laidOf
+laid-high bins slot size bin a b c k h =
+    spread-high (spreadOf (spreadOf bins slot bin size a) slot (bin + size) size b) slot (bin + 2 * size) size c k h
+    ∙ spread-high (spreadOf bins slot bin size a) slot (bin + size) size b k h ∙ spread-high bins slot bin size a k h

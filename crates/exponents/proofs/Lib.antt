@@ -1,0 +1,4 @@
+pub mod ExpLaws
+pub mod SetLaws
+pub mod Unmet
+pub mod Edges

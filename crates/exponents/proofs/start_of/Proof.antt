@@ -1,0 +1,16 @@
+use borrow.Author.Tests.{eq-eqb, ne-eqb}
+use Rattle.exponents.specs.Exponents.{startOf}
+use borrow.Author.Needs.{needs}
+use Rattle.exponents.proofs.start_of.Statement.{statement}
+use Rattle.exponents.proofs.start_of.Tie as tie
+
+returns : tie.Need-returns
+unfolding startOf
+returns c = rw (eq-eqb _ _ (c .if1 .taken))
+
+returns-2 : tie.Need-returns-2
+unfolding startOf
+returns-2 c = rw (ne-eqb _ _ (c .if1 .left))
+
+pub start-of-spec : {M : Type 1} → statement M
+start-of-spec = tie.close (tie.spec (λ c. search needs) returns returns-2)

@@ -1,0 +1,237 @@
+// Exponents out of their groups (A/52 clause 7.1.3, TS 102 366 clause 6.1.3).
+//
+// `bins` holds seven slots of 256 exponents, then seven slots of 256 pointers. The slots are the five
+// full bandwidth channels, the coupling channel (5) and the LFE channel (6).
+use slots::CPL;
+use slots::LFE;
+ghost use mathlib.Core.Path.{_≡_};
+ghost use mathlib.Core.Bool.{true};
+ghost use Prim.Native.Nat.{_+_, _-_, _<_, _≤_};
+ghost use lib.ListN.{length};
+ghost use Rattle.exponents.specs.Exponents.{nextOf, decodeOf, sizeOf, groupsOf, startOf, firstOf, putOf, spreadOf, laidOf};
+
+pub mod set; // a set of exponents, read group by group
+
+// An exponent after one step, or none where it leaves 0 to 24.
+pub enum Next {
+    Outside,
+    To(u8),
+}
+
+// What a group comes to: three exponents, or a refusal.
+pub enum Group {
+    Refused(u8),
+    Moved(u8, u8, u8),
+}
+
+fn step(prev: u8, m: u8) -> Next
+    ensures { λ r. ⌜ r ≡ nextOf prev m ⌝ }
+{
+    let sum = prev as u16 + m as u16;
+    if sum < 2 {
+        return Next::Outside;
+    }
+    if 26 < sum {
+        return Next::Outside;
+    }
+    Next::To((sum - 2) as u8)
+}
+
+// The three exponents of a group, from the exponent before it: 11 for a group above 124, and 27 where
+// an exponent leaves 0 to 24.
+pub fn decode(prev: u8, group: u8) -> Group
+    ensures { λ r. ⌜ r ≡ decodeOf prev group ⌝ }
+{
+    if 124 < group {
+        return Group::Refused(11);
+    }
+    let Next::To(a) = step(prev, group / 25) else {
+        return Group::Refused(27);
+    };
+    let Next::To(b) = step(a, group % 25 / 5) else {
+        return Group::Refused(27);
+    };
+    let Next::To(c) = step(b, group % 5) else {
+        return Group::Refused(27);
+    };
+    Group::Moved(a, b, c)
+}
+
+// How many bins share an exponent: strategy 1 is D15, 2 is D25, 3 is D45.
+pub fn group_size(strategy: u8) -> u32
+    ensures { λ r. ⌜ (r ≡ sizeOf strategy) × (1 ≤ r) × (r ≤ 4) ⌝ }
+{
+    if strategy == 3 {
+        return 4;
+    }
+    if strategy == 2 {
+        return 2;
+    }
+    1
+}
+
+fn less(a: u32, b: u32) -> u32
+    ensures { λ r. ⌜ r ≡ a - b ⌝ }
+{
+    if b <= a { a - b } else { 0 }
+}
+
+// The number of groups of a set that ends before the bin `end`, of the coupling channel from `start` on.
+pub fn groups(slot: u8, strategy: u8, start: u16, end: u16) -> u16
+    ensures { λ r. ⌜ r ≡ groupsOf slot strategy start end ⌝ }
+{
+    let size = 3 * group_size(strategy);
+    if slot == CPL {
+        return (less(end as u32, start as u32) / size) as u16;
+    }
+    if slot == LFE {
+        return 2;
+    }
+    ((less(end as u32, 1) + (size - 3)) / size) as u16
+}
+
+// The value that the first group counts from.
+pub fn start_of(slot: u8, absexp: u8) -> u8
+    requires { ⌜ absexp ≤ 15 ⌝ }
+    ensures { λ r. ⌜ r ≡ startOf slot absexp ⌝ }
+{
+    if slot == CPL { 2 * absexp } else { absexp }
+}
+
+// The bin that the first group's exponents begin at.
+pub fn first_of(slot: u8, start: u16) -> u16
+    ensures { λ r. ⌜ r ≡ firstOf slot start ⌝ }
+{
+    if slot == CPL { start } else { 1 }
+}
+
+// The exponent of a bin; nothing where there is no such slot or bin.
+pub fn put(bins: &mut [u8; 3584], slot: u8, bin: u32, e: u8)
+    requires { ⌜ length (now bins) ≡ 3584 ⌝ }
+    ensures { λ r. ⌜ now (bins .exit) ≡ putOf (now (bins .entry)) slot bin e ⌝ }
+{
+    if 7 <= slot {
+        return;
+    }
+    if bin < 256 {
+        let i = 256 * (slot as usize) + bin as usize;
+        bins[i] = e;
+    }
+}
+
+// One exponent for two bins, for four, and for as many as the strategy has it.
+fn put_two(bins: &mut [u8; 3584], slot: u8, bin: u32, e: u8)
+    requires { ⌜ (length (now bins) ≡ 3584) × (bin + 2 < 4294967296) ⌝ }
+    ensures { λ r. ⌜ now (bins .exit) ≡ spreadOf (now (bins .entry)) slot bin 2 e ⌝ }
+{
+    put(bins, slot, bin, e);
+    put(bins, slot, bin + 1, e);
+}
+
+fn put_four(bins: &mut [u8; 3584], slot: u8, bin: u32, e: u8)
+    requires { ⌜ (length (now bins) ≡ 3584) × (bin + 4 < 4294967296) ⌝ }
+    ensures { λ r. ⌜ now (bins .exit) ≡ spreadOf (now (bins .entry)) slot bin 4 e ⌝ }
+{
+    put_two(bins, slot, bin, e);
+    put_two(bins, slot, bin + 2, e);
+}
+
+fn spread(bins: &mut [u8; 3584], slot: u8, strategy: u8, bin: u32, e: u8)
+    requires { ⌜ (length (now bins) ≡ 3584) × (bin + 4 < 4294967296) ⌝ }
+    ensures { λ r. ⌜ now (bins .exit) ≡ spreadOf (now (bins .entry)) slot bin (sizeOf strategy) e ⌝ }
+{
+    if strategy == 3 {
+        put_four(bins, slot, bin, e);
+        return;
+    }
+    if strategy == 2 {
+        put_two(bins, slot, bin, e);
+        return;
+    }
+    put(bins, slot, bin, e);
+}
+
+// The same of one, two and four bins that the slot has.
+fn one(bins: &mut [u8; 3584], slot: u8, bin: u32, e: u8)
+    requires { ⌜ (length (now bins) ≡ 3584) × (slot < 7) × (bin < 256) ⌝ }
+    ensures { λ r. ⌜ now (bins .exit) ≡ spreadOf (now (bins .entry)) slot bin 1 e ⌝ }
+{
+    let i = 256 * (slot as usize) + bin as usize;
+    bins[i] = e;
+}
+
+fn two(bins: &mut [u8; 3584], slot: u8, bin: u32, e: u8)
+    requires { ⌜ (length (now bins) ≡ 3584) × (slot < 7) × (bin + 1 < 256) ⌝ }
+    ensures { λ r. ⌜ now (bins .exit) ≡ spreadOf (now (bins .entry)) slot bin 2 e ⌝ }
+{
+    let i = 256 * (slot as usize) + bin as usize;
+    bins[i] = e;
+    bins[i + 1] = e;
+}
+
+fn four(bins: &mut [u8; 3584], slot: u8, bin: u32, e: u8)
+    requires { ⌜ (length (now bins) ≡ 3584) × (slot < 7) × (bin + 3 < 256) ⌝ }
+    ensures { λ r. ⌜ now (bins .exit) ≡ spreadOf (now (bins .entry)) slot bin 4 e ⌝ }
+{
+    let i = 256 * (slot as usize) + bin as usize;
+    bins[i] = e;
+    bins[i + 1] = e;
+    bins[i + 2] = e;
+    bins[i + 3] = e;
+}
+
+fn spread_in(bins: &mut [u8; 3584], slot: u8, strategy: u8, bin: u32, e: u8)
+    requires { ⌜ (length (now bins) ≡ 3584) × (slot < 7) × (bin + 4 ≤ 256) ⌝ }
+    ensures { λ r. ⌜ now (bins .exit) ≡ spreadOf (now (bins .entry)) slot bin (sizeOf strategy) e ⌝ }
+{
+    if strategy == 3 {
+        four(bins, slot, bin, e);
+        return;
+    }
+    if strategy == 2 {
+        two(bins, slot, bin, e);
+        return;
+    }
+    one(bins, slot, bin, e);
+}
+
+// A group whose bins the slot has.
+fn lay_in(bins: &mut [u8; 3584], slot: u8, strategy: u8, bin: u32, a: u8, b: u8, c: u8)
+    requires { ⌜ (length (now bins) ≡ 3584) × (slot < 7) × (bin + 12 ≤ 256) ⌝ }
+    ensures { λ r. ⌜ now (bins .exit) ≡ laidOf (now (bins .entry)) slot (sizeOf strategy) bin a b c ⌝ }
+{
+    let size = group_size(strategy);
+    spread_in(bins, slot, strategy, bin, a);
+    spread_in(bins, slot, strategy, bin + size, b);
+    spread_in(bins, slot, strategy, bin + 2 * size, c);
+}
+
+// A group some of whose bins the slot may not have.
+fn lay_some(bins: &mut [u8; 3584], slot: u8, strategy: u8, bin: u32, a: u8, b: u8, c: u8)
+    requires { ⌜ (length (now bins) ≡ 3584) × (bin + 12 < 4294967296) ⌝ }
+    ensures { λ r. ⌜ now (bins .exit) ≡ laidOf (now (bins .entry)) slot (sizeOf strategy) bin a b c ⌝ }
+{
+    let size = group_size(strategy);
+    spread(bins, slot, strategy, bin, a);
+    spread(bins, slot, strategy, bin + size, b);
+    spread(bins, slot, strategy, bin + 2 * size, c);
+}
+
+// Whether a slot has the bins of every group from the bin `bin` on.
+fn inside(slot: u8, bin: u32) -> bool
+    ensures { λ r. ⌜ (r ≡ true → slot < 7) × (r ≡ true → bin + 12 ≤ 256) ⌝ }
+{
+    if bin <= 244 { slot < 7 } else { false }
+}
+
+// The three exponents of a group, each for as many bins as the strategy has it, from the bin `bin` on.
+pub fn lay(bins: &mut [u8; 3584], slot: u8, strategy: u8, bin: u32, a: u8, b: u8, c: u8)
+    requires { ⌜ (length (now bins) ≡ 3584) × (bin + 12 < 4294967296) ⌝ }
+    ensures { λ r. ⌜ now (bins .exit) ≡ laidOf (now (bins .entry)) slot (sizeOf strategy) bin a b c ⌝ }
+{
+    if inside(slot, bin) {
+        lay_in(bins, slot, strategy, bin, a, b, c);
+        return;
+    }
+    lay_some(bins, slot, strategy, bin, a, b, c);
+}

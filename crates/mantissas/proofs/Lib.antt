@@ -1,0 +1,2 @@
+pub mod MantissaLaws
+pub mod TallyLaws

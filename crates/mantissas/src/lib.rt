@@ -1,0 +1,223 @@
+// Conventional mantissas: how many bits they take, by their pointers (A/52 clause 7.3.5, TS 102 366
+// clause 6.3.5). Of the input only the end is asked for.
+use crate::tally::Tally;
+use crate::tally::opened2;
+use crate::tally::opened3;
+use crate::tally::shares;
+use crate::tally::tallied;
+use crate::tally::turned2;
+use crate::tally::turned3;
+use bits::BitPlace;
+use skim::past;
+ghost use mathlib.Core.Path.{_≡_};
+ghost use mathlib.Core.List.{List};
+ghost use Prim.Native.Nat.{ℕ, _+_, _-_, _%_, _<_, _≤_};
+ghost use lib.ListN.{length, getD};
+ghost use Rattle.alloc.specs.Allocation.{tab};
+ghost use Rattle.tables.specs.Small.{bapBits};
+ghost use Rattle.reading.specs.Run.{skim};
+ghost use Rattle.mantissas.specs.Mantissas.{opensOf, widthOf, countedOf, conventionalOf};
+ghost use Rattle.mantissas.specs.Tally.{shareOf, spentOf, leftOf};
+ghost use Rattle.mantissas.specs.Outcomes.{groupsOutcome};
+
+pub mod tally; // what the pointers of a range come to
+
+// How many mantissas of the group at hand have passed, of the pointers 1, 2 and 4.
+pub struct Groups {
+    pub g1: u8,
+    pub g2: u8,
+    pub g4: u8,
+}
+
+// Where the mantissas of a range end, or that they pass the frame's end, and where the first does.
+pub struct Passed {
+    pub refused: bool,
+    pub place: BitPlace,
+    pub groups: Groups,
+}
+
+// TS 102 366 Table 6.17: the bits of a mantissa that stands alone.
+fn alone(bap: u8) -> u16
+    ensures { λ r. ⌜ r ≡ getD bapBits bap 0 ⌝ }
+{
+    if 16 <= bap {
+        return 0;
+    }
+    if bap == 3 {
+        return 3;
+    }
+    if bap < 5 {
+        return 0;
+    }
+    if bap < 14 {
+        return bap as u16 - 1;
+    }
+    if bap == 14 { 14 } else { 16 }
+}
+
+// A group's bits come with its first mantissa.
+fn opens(count: u8, bits: u16) -> u16
+    ensures { λ r. ⌜ r ≡ opensOf count bits ⌝ }
+{
+    if count == 0 { bits } else { 0 }
+}
+
+// The bits that are read at a mantissa.
+fn width(g: Groups, bap: u8) -> u16
+    ensures { λ r. ⌜ r ≡ widthOf g bap ⌝ }
+{
+    if bap == 1 {
+        return opens(g.g1, 5);
+    }
+    if bap == 2 {
+        return opens(g.g2, 7);
+    }
+    if bap == 4 {
+        return opens(g.g4, 7);
+    }
+    alone(bap)
+}
+
+fn turn3(count: u8) -> u8
+    ensures { λ r. ⌜ r ≡ (count + 1) % 3 ⌝ }
+{
+    ((count as u16 + 1) % 3) as u8
+}
+
+fn turn2(count: u8) -> u8
+    ensures { λ r. ⌜ r ≡ (count + 1) % 2 ⌝ }
+{
+    ((count as u16 + 1) % 2) as u8
+}
+
+// The counts after a mantissa.
+fn counted(g: Groups, bap: u8) -> Groups
+    ensures { λ r. ⌜ r ≡ countedOf g bap ⌝ }
+{
+    if bap == 1 {
+        return Groups {
+            g1: turn3(g.g1),
+            g2: g.g2,
+            g4: g.g4,
+        };
+    }
+    if bap == 2 {
+        return Groups {
+            g1: g.g1,
+            g2: turn3(g.g2),
+            g4: g.g4,
+        };
+    }
+    if bap == 4 {
+        return Groups {
+            g1: g.g1,
+            g2: g.g2,
+            g4: turn2(g.g4),
+        };
+    }
+    g
+}
+
+// Passes the mantissas of the bins `start` to `end` - 1 of a slot, one by one: refusal 8 at the first bit of
+// the one that would pass `limit`.
+fn one_by_one(
+    bins: &[u8; 3584],
+    slot: u8,
+    start: u16,
+    end: u16,
+    g: Groups,
+    at: BitPlace,
+    limit: BitPlace,
+) -> Passed
+    requires { ⌜ (length (now bins) ≡ 3584) × (slot < 7) × (end ≤ 256) ⌝ }
+    ensures { λ r. ⌜ ((s : List ℕ) → groupsOutcome r ≡ skim (conventionalOf (now (bins .entry)) slot start (end - start) g) s (at .0) (limit .0)) ⌝ }
+{
+    let base = 1792 + 256 * (slot as usize);
+    let last = limit.0;
+    let mut p = at.0;
+    let mut q = g;
+    let mut i = start;
+    while i < end {
+        let k = base + i as usize;
+        let bap = bins[k];
+        let w = width(q, bap);
+        if past(p, w, last) {
+            return Passed {
+                refused: true,
+                place: BitPlace(p),
+                groups: q,
+            };
+        }
+        p += w;
+        q = counted(q, bap);
+        i += 1;
+    }
+    Passed {
+        refused: false,
+        place: BitPlace(p),
+        groups: q,
+    }
+}
+
+// All bits of the mantissas of a tally.
+fn spent(g: Groups, t: Tally) -> u32
+    ensures { λ r. ⌜ (r ≡ spentOf g t) × (r ≤ 1310700) ⌝ }
+{
+    t.alone as u32 + 5 * opened3(g.g1, t.n1) + 7 * opened3(g.g2, t.n2) + 7 * opened2(g.g4, t.n4)
+}
+
+// The counts after them.
+fn left(g: Groups, t: Tally) -> Groups
+    ensures { λ r. ⌜ r ≡ leftOf g t ⌝ }
+{
+    Groups {
+        g1: turned3(g.g1, t.n1),
+        g2: turned3(g.g2, t.n2),
+        g4: turned2(g.g4, t.n4),
+    }
+}
+
+// Passes the mantissas of the bins `start` to `end` - 1 of a slot: refusal 8 at the first bit of the one
+// that would pass `limit`. What they take is counted first; one by one they are passed only where that is
+// too much.
+pub fn pass(
+    shares: &[u64; 256],
+    bins: &[u8; 3584],
+    slot: u8,
+    start: u16,
+    end: u16,
+    g: Groups,
+    at: BitPlace,
+    limit: BitPlace,
+) -> Passed
+    requires { ⌜ (now shares ≡ tab shareOf 0 256) × (length (now bins) ≡ 3584) × (slot < 7) × (end ≤ 256) ⌝ }
+    ensures { λ r. ⌜ ((s : List ℕ) → groupsOutcome r ≡ skim (conventionalOf (now (bins .entry)) slot start (end - start) g) s (at .0) (limit .0)) ⌝ }
+{
+    let t = tallied(shares, bins, slot, start, end);
+    let p = at.0 as u32 + spent(g, t);
+    if (limit.0 as u32) < p {
+        return one_by_one(bins, slot, start, end, g, at, limit);
+    }
+    Passed {
+        refused: false,
+        place: BitPlace(p as u16),
+        groups: left(g, t),
+    }
+}
+
+// The same by a table of its own.
+pub fn conventional(
+    bins: &[u8; 3584],
+    slot: u8,
+    start: u16,
+    end: u16,
+    g: Groups,
+    at: BitPlace,
+    limit: BitPlace,
+) -> Passed
+    requires { ⌜ (length (now bins) ≡ 3584) × (slot < 7) × (end ≤ 256) ⌝ }
+    ensures { λ r. ⌜ ((s : List ℕ) → groupsOutcome r ≡ skim (conventionalOf (now (bins .entry)) slot start (end - start) g) s (at .0) (limit .0)) ⌝ }
+{
+    let t = shares();
+    pass(&t, bins, slot, start, end, g, at, limit)
+}

@@ -1,0 +1,146 @@
+-- Laws of the walk through a block's mantissas: one slot, one channel, the whole. Assumes nothing.
+use mathlib.Core.Path.{_≡_, refl, ap, sym, _∙_}
+use mathlib.Core.Bool.{Bool, true, false, _&&_, _||_, not, cond}
+use mathlib.Core.List.{List, [], _∷_}
+use Prim.Native.Nat.{ℕ, zero, suc, _+_, _-_, _≤_, _<_, min}
+use native.Mathlib.Omega.{arith}
+use native.Mathlib.Decide.{ℕ-discrete}
+use lib.Dec.{eqb, ltb}
+use lib.ListN.{getD}
+use borrow.Author.Tests.{eq-eqb, ne-eqb}
+use Rattle.reading.specs.Tree.{Skim, stop, _>>-_}
+use Rattle.reading.specs.Run.{Result, accepted, refused, Outcome, out, skim}
+use Rattle.slots.specs.Slots.{CPL, LFE}
+use Rattle.mantissas.specs.Mantissas.{conventionalOf}
+use Rattle.hybrid.specs.Hybrid.{ahtOf}
+use Rattle.skim.specs.Outcomes.{outcome, orPast}
+use Rattle.hybrid.specs.Outcomes.{tagsOutcome}
+use Rattle.mantissas.specs.Outcomes.{groupsOutcome}
+use Rattle.slots.specs.Slots.{rangeOf, readOf}
+use Rattle.plan.specs.Plan.{Along, along, visitOf, visitIf, slotsOf, mantissasOf}
+use Rattle.plan.specs.Taken.{takingOutcome, onward}
+use Rattle.mantissas.specs.declared.Groups.{Groups}
+use Rattle.mantissas.specs.declared.Passed.{Passed}
+use Rattle.hybrid.specs.declared.Tagged.{Tagged}
+use Rattle.slots.specs.declared.Shape.{Shape}
+use Rattle.slots.specs.declared.Range.{Range}
+use Rattle.plan.specs.declared.Taking.{Taking}
+use Rattle.skim.proofs.SkimLaws.{skim-stop, bind-on, bind-off}
+
+-- a refusal that stands stays
+pub onward-off : {A : Type 0} (t : Taking) (k : Along → Skim A) (s : List ℕ) (l : ℕ) → (t .number ≡ 0 → ⊥) → onward t k s l ≡ out (refused (t .number)) (t .place) []
+unfolding onward
+onward-off t k s l h = rw (ne-eqb (t .number) 0 h)
+
+pub onward-on : {A : Type 0} (t : Taking) (k : Along → Skim A) (s : List ℕ) (l : ℕ) → t .number ≡ 0 → onward t k s l ≡ skim (k (along (t .groups) (t .tags))) s (t .place) l
+unfolding onward
+onward-on t k s l h = rw (eq-eqb (t .number) 0 h)
+
+onward-same : {A : Type 0} (t : Taking) (k k' : Along → Skim A) (s : List ℕ) (l : ℕ) → k (along (t .groups) (t .tags)) ≡ k' (along (t .groups) (t .tags)) → onward t k s l ≡ onward t k' s l
+unfolding onward
+onward-same t k k' s l e = rw e
+
+never : {A : Type 0} (a : A) (n : ℕ) → accepted a ≡ refused n → ⊥
+never a n q = let z : _≡_ {A = ℕ} 0 1 = cc in omega arith
+
+-- one after another
+module _ {A : Type 0} (t r : Taking) (k : Along → Skim Along) (f : Along → Skim A) (s : List ℕ) (l : ℕ) (e : takingOutcome r ≡ onward t k s l) where
+  standing : (t .number ≡ 0 → ⊥) → Dec (r .number ≡ 0) → out {A = A} (refused (t .number)) (t .place) [] ≡ onward r f s l
+  standing h (yes g) =
+      let q : accepted (along (r .groups) (r .tags)) ≡ refused (t .number) = rw (eq-eqb (r .number) 0 g) at (ap (λ o. o .result) (e ∙ onward-off t k s l h)) in
+      absurd (never _ _ q)
+  standing h (no g) =
+      let q : out {A = Along} (refused (r .number)) (r .place) [] ≡ out (refused (t .number)) (t .place) [] = rw (ne-eqb (r .number) 0 g) at (e ∙ onward-off t k s l h) in
+      let a : _≡_ {A = Result Along} (refused (r .number)) (refused (t .number)) = ap (λ o. o .result) q in
+      let n : r .number ≡ t .number = cc in
+      let p : r .place ≡ t .place = ap (λ o. o .place) q in
+      sym (onward-off r f s l g ∙ rw (n, p) refl)
+
+  going : t .number ≡ 0 → Dec (r .number ≡ 0) → skim (k (along (t .groups) (t .tags)) >>- f) s (t .place) l ≡ onward r f s l
+  going h (yes g) = bind-on f s l (k (along (t .groups) (t .tags))) (t .place) (r .number) (r .place) (along (r .groups) (r .tags)) (e ∙ onward-on t k s l h) g ∙ sym (onward-on r f s l g)
+  going h (no g) = bind-off f s l (k (along (t .groups) (t .tags))) (t .place) (r .number) (r .place) (along (r .groups) (r .tags)) (e ∙ onward-on t k s l h) g ∙ sym (onward-off r f s l g)
+
+  pub onward-bind : onward t (λ a. k a >>- f) s l ≡ onward r f s l
+  onward-bind = go (ℕ-discrete (t .number) 0)
+    where
+      go : Dec (t .number ≡ 0) → onward t (λ a. k a >>- f) s l ≡ onward r f s l
+      go (yes h) = onward-on t _ s l h ∙ going h (ℕ-discrete (r .number) 0)
+      go (no h) = onward-off t _ s l h ∙ standing h (ℕ-discrete (r .number) 0)
+
+-- one slot
+module _ (bins : List ℕ) (shape : Shape) (slot : ℕ) (t : Taking) (s : List ℕ) (l : ℕ) where
+  pub visit-refused : (wanted : Bool) → (t .number ≡ 0 → ⊥) → takingOutcome t ≡ onward t (visitIf bins shape wanted slot) s l
+  visit-refused wanted h = rw (onward-off t (visitIf bins shape wanted slot) s l h, ne-eqb (t .number) 0 h)
+
+  outcome-here : t .number ≡ 0 → takingOutcome t ≡ skim (stop (along (t .groups) (t .tags))) s (t .place) l
+  outcome-here h = rw (eq-eqb (t .number) 0 h) (sym (skim-stop s (t .place) l (along (t .groups) (t .tags))))
+
+  pub visit-unwanted : (wanted : Bool) → t .number ≡ 0 → wanted ≡ false → takingOutcome t ≡ onward t (visitIf bins shape wanted slot) s l
+  unfolding visitIf
+  visit-unwanted wanted h w = outcome-here h ∙ sym (onward-on t (visitIf bins shape wanted slot) s l h ∙ rw w)
+
+  module _ (wanted : Bool) (h : t .number ≡ 0) (w : wanted ≡ true) (b : Bool) (c : b ≡ readOf shape slot) where
+    pub visit-read : b ≡ true → takingOutcome t ≡ onward t (visitIf bins shape wanted slot) s l
+    unfolding visitIf visitOf
+    visit-read d = outcome-here h ∙ sym (onward-on t (visitIf bins shape wanted slot) s l h ∙ rw (w, ← c, d))
+
+    module _ (d : b ≡ false) (r : Range) (e : r ≡ rangeOf shape slot) (x : Bool) (f : x ≡ getD (shape .ahtinu) slot false) where
+      pub visit-aht : x ≡ true → (a : Tagged) → tagsOutcome a ≡ skim (ahtOf bins slot (r .start) (r .end - r .start)) s (t .place) l
+          → outcome (a .number) (along (t .groups) (t .tags + a .tags)) (a .place) ≡ onward t (visitIf bins shape wanted slot) s l
+      unfolding visitIf visitOf
+      visit-aht g a i = sym (onward-on t (visitIf bins shape wanted slot) s l h ∙ rw (w, ← c, d, ← f, g, ← e) (go (ℕ-discrete (a .number) 0)))
+        where
+          go : Dec (a .number ≡ 0) → skim (ahtOf bins slot (r .start) (r .end - r .start) >>- (λ u. stop (along (t .groups) (t .tags + u)))) s (t .place) l
+              ≡ outcome (a .number) (along (t .groups) (t .tags + a .tags)) (a .place)
+          go (yes n) = bind-on _ s l (ahtOf bins slot (r .start) (r .end - r .start)) (t .place) (a .number) (a .place) (a .tags) i n ∙ skim-stop s (a .place) l _ ∙ rw (eq-eqb (a .number) 0 n)
+          go (no n) = bind-off _ s l (ahtOf bins slot (r .start) (r .end - r .start)) (t .place) (a .number) (a .place) (a .tags) i n ∙ rw (ne-eqb (a .number) 0 n)
+
+      pub visit-conventional : x ≡ false → (p : Passed) → groupsOutcome p ≡ skim (conventionalOf bins slot (r .start) (r .end - r .start) (t .groups)) s (t .place) l
+          → (o : Outcome Along) → o ≡ out (orPast (p .refused) (along (p .groups) (t .tags))) (p .place .0) [] → o ≡ onward t (visitIf bins shape wanted slot) s l
+      unfolding visitIf visitOf
+      visit-conventional g p i o j = j ∙ sym (onward-on t (visitIf bins shape wanted slot) s l h ∙ rw (w, ← c, d, ← f, g, ← e) (go (p .refused) i))
+        where
+          go : (b : Bool) → out (orPast b (p .groups)) (p .place .0) [] ≡ skim (conventionalOf bins slot (r .start) (r .end - r .start) (t .groups)) s (t .place) l
+              → skim (conventionalOf bins slot (r .start) (r .end - r .start) (t .groups) >>- (λ u. stop (along u (t .tags)))) s (t .place) l
+              ≡ out (orPast b (along (p .groups) (t .tags))) (p .place .0) []
+          go true q = bind-off _ s l (conventionalOf bins slot (r .start) (r .end - r .start) (t .groups)) (t .place) 8 (p .place .0) (p .groups) q (λ z. absurd (let w : ⊥ = omega arith in w))
+          go false q = bind-on _ s l (conventionalOf bins slot (r .start) (r .end - r .start) (t .groups)) (t .place) 0 (p .place .0) (p .groups) q refl ∙ skim-stop s (p .place .0) l _
+
+pub passed-on : (b : Bool) (a : Along) (p : ℕ) → b ≡ true → out {A = Along} (refused 8) p [] ≡ out (orPast b a) p []
+passed-on b a p h = rw h
+
+-- the channels, ch of n passed
+module _ (bins : List ℕ) (shape : Shape) (s : List ℕ) (l n ch : ℕ) (got : Bool) (t : Taking) where
+  opened : ch < n → (c : Bool) → c ≡ shape .cplinu && getD (shape .chincpl) ch false → (w : Bool) → w ≡ c && not got → (got' : Bool) → got' ≡ got || c
+      → (a : Along) → slotsOf bins shape ch (n - ch) got a ≡ visitIf bins shape true ch a >>- (λ a. visitIf bins shape w CPL a >>- (λ a. slotsOf bins shape (ch + 1) (n - (ch + 1)) got' a))
+  unfolding slotsOf
+  opened h c d w f got' i a =
+      let q : n - ch ≡ suc (n - (ch + 1)) = omega arith in
+      let r : ch + 1 ≡ suc ch = omega arith in
+      rw (q, i, f, d, r)
+
+  pub slots-on : ch < n → (u : Taking) → takingOutcome u ≡ onward t (visitIf bins shape true ch) s l
+      → (c : Bool) → c ≡ shape .cplinu && getD (shape .chincpl) ch false → (w : Bool) → w ≡ c && not got
+      → (v : Taking) → takingOutcome v ≡ onward u (visitIf bins shape w CPL) s l → (got' : Bool) → got' ≡ got || c
+      → onward t (slotsOf bins shape ch (n - ch) got) s l ≡ onward v (slotsOf bins shape (ch + 1) (n - (ch + 1)) got') s l
+  slots-on h u e c d w f v g got' i =
+      onward-same t (slotsOf bins shape ch (n - ch) got) (λ a. visitIf bins shape true ch a >>- (λ a. visitIf bins shape w CPL a >>- (λ a. slotsOf bins shape (ch + 1) (n - (ch + 1)) got' a))) s l (opened h c d w f got' i _)
+      ∙ onward-bind t u (visitIf bins shape true ch) (λ a. visitIf bins shape w CPL a >>- (λ a. slotsOf bins shape (ch + 1) (n - (ch + 1)) got' a)) s l e
+      ∙ onward-bind u v (visitIf bins shape w CPL) (λ a. slotsOf bins shape (ch + 1) (n - (ch + 1)) got' a) s l g
+
+  pub slots-end : n ≤ ch → (v : Taking) → takingOutcome v ≡ onward t (visitIf bins shape (shape .lfeon) LFE) s l
+      → outcome (v .number) (v .tags ∷ []) (v .place) ≡ onward t (slotsOf bins shape ch (n - ch) got) s l
+  unfolding slotsOf
+  slots-end h v e =
+      let q : n - ch ≡ 0 = omega arith in
+      sym (rw q (onward-bind t v (visitIf bins shape (shape .lfeon) LFE) (λ a. stop (a .tags ∷ [])) s l e ∙ last (ℕ-discrete (v .number) 0)))
+    where
+      last : Dec (v .number ≡ 0) → onward v (λ a. stop (a .tags ∷ [])) s l ≡ outcome (v .number) (v .tags ∷ []) (v .place)
+      last (yes h) = onward-on v (λ a. stop (a .tags ∷ [])) s l h ∙ skim-stop s (v .place) l _ ∙ rw (eq-eqb (v .number) 0 h)
+      last (no h) = onward-off v (λ a. stop (a .tags ∷ [])) s l h ∙ rw (ne-eqb (v .number) 0 h)
+
+-- the whole, from its start
+pub slots-all : (bins : List ℕ) (shape : Shape) (s : List ℕ) (l p n : ℕ) → n ≡ min (shape .nfchans) 5
+    → onward (record { number = 0; place = p; tags = 0; groups = record { g1 = 0; g2 = 0; g4 = 0 } }) (slotsOf bins shape 0 n false) s l ≡ skim (mantissasOf bins shape) s p l
+unfolding onward mantissasOf
+slots-all bins shape s l p n e = rw e

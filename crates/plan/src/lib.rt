@@ -1,0 +1,172 @@
+// The mantissas of a block, slot by slot (A/52 clause 5.3.3, TS 102 366 clauses 4.3.3 and E.1.2.4).
+use bits::BitPlace;
+use hybrid::aht;
+use mantissas::Groups;
+use mantissas::pass;
+use mantissas::tally::shares;
+use slots::CPL;
+use slots::LFE;
+use slots::Shape;
+use slots::hybrid;
+use slots::least;
+use slots::range_at;
+use slots::read;
+ghost use mathlib.Core.Path.{_≡_};
+ghost use mathlib.Core.Bool.{cond, _&&_, _||_, not, false};
+ghost use mathlib.Core.List.{[]};
+ghost use Prim.Native.Nat.{_+_, _*_, _<_, _≤_, min};
+ghost use lib.ListN.{length, getD};
+ghost use Rattle.alloc.specs.Allocation.{tab};
+ghost use Rattle.reading.specs.Run.{skim, out};
+ghost use Rattle.mantissas.specs.Tally.{shareOf};
+ghost use Rattle.plan.specs.Plan.{along, visitIf, mantissasOf};
+ghost use Rattle.plan.specs.Taken.{takingOutcome, onward, taken};
+ghost use Rattle.skim.specs.Outcomes.{orPast};
+
+// Where the walk through a block stands: a refusal number, or 0; the place; the tags; the counts of groups.
+pub struct Taking {
+    pub number: u8,
+    pub place: u16,
+    pub tags: u16,
+    pub groups: Groups,
+}
+
+// A refusal number, or 0; the place; and the tags counted.
+pub struct Taken {
+    pub number: u8,
+    pub place: BitPlace,
+    pub tags: u16,
+}
+
+// The mantissas of a slot, where it is wanted and no refusal stands.
+fn visit(
+    shares: &[u64; 256],
+    src: &[u8],
+    bins: &[u8; 3584],
+    shape: Shape,
+    wanted: bool,
+    slot: u8,
+    t: Taking,
+    limit: u16,
+) -> Taking
+    requires { ⌜ now shares ≡ tab shareOf 0 256 ⌝ }
+    requires { ⌜ (length (now bins) ≡ 3584) × (slot < 7) × (limit ≤ 8 * length (now src)) × (t .tags ≤ 32768) ⌝ }
+    ensures { λ r. ⌜ (takingOutcome r ≡ onward t (visitIf (now (bins .entry)) shape wanted slot) (now (src .entry)) limit) × (r .tags ≤ t .tags + 1536) ⌝ }
+{
+    if t.number != 0 {
+        return t;
+    }
+    if !wanted {
+        return t;
+    }
+    if read(shape, slot) {
+        return t;
+    }
+    let r = range_at(shape, slot);
+    let g = t.groups;
+    if hybrid(shape, slot) {
+        let a = aht(src, bins, slot, r.start, r.end, t.place, limit);
+        return Taking {
+            number: a.number,
+            place: a.place,
+            tags: t.tags + a.tags,
+            groups: g,
+        };
+    }
+    let p = pass(
+        shares,
+        bins,
+        slot,
+        r.start,
+        r.end,
+        g,
+        BitPlace(t.place),
+        BitPlace(limit),
+    );
+    passed(p.refused, p.place, p.groups, t.tags)
+}
+
+fn passed(refused: bool, place: BitPlace, groups: Groups, tags: u16) -> Taking
+    ensures { λ r. ⌜ (takingOutcome r ≡ out (orPast refused (along groups tags)) (place .0) []) × (r .tags ≡ tags) ⌝ }
+{
+    if refused {
+        return Taking {
+            number: 8,
+            place: place.0,
+            tags: tags,
+            groups: groups,
+        };
+    }
+    Taking {
+        number: 0,
+        place: place.0,
+        tags: tags,
+        groups: groups,
+    }
+}
+
+// Whether a channel is coupled.
+fn coupled(shape: Shape, ch: u8) -> bool
+    requires { ⌜ ch < 5 ⌝ }
+    ensures { λ r. ⌜ r ≡ shape .cplinu && getD (shape .chincpl) ch false ⌝ }
+{
+    let i = ch as usize;
+    let a = shape.cplinu;
+    let b = shape.chincpl[i];
+    a && b
+}
+
+fn first(coupled: bool, got: bool) -> bool
+    ensures { λ r. ⌜ r ≡ coupled && not got ⌝ }
+{
+    coupled && !got
+}
+
+fn either(a: bool, b: bool) -> bool
+    ensures { λ r. ⌜ r ≡ a || b ⌝ }
+{
+    a || b
+}
+
+// The mantissas of a block: its channels, the coupling channel after the first coupled one, the LFE
+// channel last. Refusal 8 at the first bit of what would pass `limit`, 13 for a composite gain above 26.
+pub fn mantissas(
+    src: &[u8],
+    bins: &[u8; 3584],
+    shape: Shape,
+    at: BitPlace,
+    limit: BitPlace,
+) -> Taken
+    requires { ⌜ (length (now bins) ≡ 3584) × (limit .0 ≤ 8 * length (now src)) ⌝ }
+    ensures { λ r. ⌜ taken r ≡ skim (mantissasOf (now (bins .entry)) shape) (now (src .entry)) (at .0) (limit .0) ⌝ }
+{
+    let table = shares();
+    let last = limit.0;
+    let n = least(shape.nfchans as u16, 5);
+    let mut t = Taking {
+        number: 0,
+        place: at.0,
+        tags: 0,
+        groups: Groups {
+            g1: 0,
+            g2: 0,
+            g4: 0,
+        },
+    };
+    let mut got = false;
+    let mut ch: u16 = 0;
+    while ch < n {
+        let slot = ch as u8;
+        t = visit(&table, src, bins, shape, true, slot, t, last);
+        let c = coupled(shape, slot);
+        t = visit(&table, src, bins, shape, first(c, got), CPL, t, last);
+        got = either(got, c);
+        ch += 1;
+    }
+    t = visit(&table, src, bins, shape, shape.lfeon, LFE, t, last);
+    Taken {
+        number: t.number,
+        place: BitPlace(t.place),
+        tags: t.tags,
+    }
+}
