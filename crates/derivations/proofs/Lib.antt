@@ -1,0 +1,6 @@
+pub mod StepLaws
+pub mod FrameLaws
+pub mod BlockLaws
+pub mod AllocLaws
+pub mod Keeps
+pub mod Edges

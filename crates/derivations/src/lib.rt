@@ -1,0 +1,58 @@
+// The derivations: what the standard gives as a formula or a table, and not as syntax.
+pub mod allocating;
+pub mod blocks;
+pub mod flags;
+pub mod frames;
+pub mod sets;
+pub mod shapes;
+
+ghost use mathlib.Core.Path.{_≡_};
+ghost use Rattle.slots.specs.Held.{Held};
+ghost use Rattle.allocation.specs.Memo.{Memo};
+ghost use Rattle.cells.specs.Cells.{state};
+ghost use Rattle.derivations.specs.Derivations.{Derives};
+use crate::allocating::allocate_in;
+use crate::allocating::defaults;
+use crate::allocating::fresh;
+use crate::blocks::aht_read;
+use crate::blocks::cpl_range;
+use crate::blocks::endmants_in;
+use crate::blocks::ncplbnd;
+use crate::blocks::nrematbd;
+use crate::blocks::nspxbnds;
+use crate::blocks::spx_range;
+use crate::frames::blkstrtinfo;
+use crate::frames::ch_strategies;
+use crate::frames::cpl_strategies;
+use crate::frames::ncplblks;
+use crate::frames::nfchans;
+use crate::frames::numblks;
+use crate::frames::regions;
+
+// The derivation k: 0, or a refusal's number.
+pub fn derive(k: u8, cells: &mut [u16; 1024], bins: &mut [u8; 3584], memo: &mut [u8; 2128]) -> u8
+    requires { ⌜ (Held (now bins)) × Memo (now memo) (now bins) ⌝ }
+    ensures { λ r. ⌜ Derives k r (state (now (cells .entry)) (now (bins .entry))) (state (now (cells .exit)) (now (bins .exit))) (now (memo .exit)) ⌝ }
+{
+    match k {
+        1 => numblks(cells),
+        2 => nfchans(cells),
+        3 => fresh(cells),
+        4 => ncplblks(cells),
+        5 => cpl_strategies(cells),
+        6 => ch_strategies(cells),
+        7 => regions(cells),
+        8 => blkstrtinfo(cells),
+        9 => spx_range(cells),
+        10 => nspxbnds(cells),
+        11 => cpl_range(cells),
+        12 => ncplbnd(cells),
+        13 => nrematbd(cells),
+        14 => return endmants_in(cells),
+        15 => defaults(cells),
+        16 => return allocate_in(cells, bins, memo),
+        17 => aht_read(cells),
+        _ => {}
+    }
+    0
+}
