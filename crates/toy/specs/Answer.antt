@@ -6,8 +6,8 @@ use lib.ListN.{length, replicate}
 use Rattle.reading.specs.Run.{Result, accepted, refused, run}
 use Rattle.reading.specs.Room.{Room, cut, size, Out, got, into}
 use Rattle.syntax.specs.declared.Cursor.{Cursor}
-use Rattle.walk.specs.Cells.{State, state}
-use Rattle.walk.specs.Syntax.{meaning}
+use Rattle.cells.specs.Cells.{State, state}
+use Rattle.rows.specs.Syntax.{meaning}
 use Rattle.toy.specs.Toy.{frame}
 
 abbrev pub plain : Result State → Result (Unit {0})
@@ -25,7 +25,7 @@ abbrev pub limitOf : List ℕ → ℕ
 limitOf s = 8 * min (length s) 4096
 
 abbrev pub start : State
-start = state (replicate 640 0) (replicate 3584 0)
+start = state (replicate 1024 0) (replicate 3584 0)
 
 -- the syntax's tree, run on the data, and cut at the room
 abbrev pub parsed : List ℕ → Room → Out (Unit {0})

@@ -1,11 +1,3 @@
-pub mod Numbers
-pub mod Edges
-pub mod ActLaws
-pub mod ExpActs
-pub mod AllocActs
-pub mod Takes
 pub mod Blocks
-pub mod Fields
 pub mod Following
-pub mod Settling
 pub mod Walks

@@ -1,11 +1,1 @@
-pub mod Cells
-pub mod CellNames
-pub mod Rows
-pub mod Shapes
-pub mod Allocating
-pub mod Acts
-pub mod Scans
-pub mod Syntax
-pub mod Steps
 pub mod Stands
-pub mod Calm

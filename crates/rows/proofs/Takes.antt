@@ -1,0 +1,189 @@
+-- What a row of input reads: looked at, recorded, stored. Assumes nothing.
+use Prim.Native.Nat.{ℕ, _+_, _-_, _%_, _≤_, _<_}
+use mathlib.Core.Bool.{Bool, true, false, cond}
+use mathlib.Core.Path.{_≡_, refl, sym, ap, ap₂, _∙_}
+use mathlib.Core.List.{List, [], _∷_}
+use native.Mathlib.Omega.{arith}
+use native.Mathlib.Decide.{decLe}
+use lib.Dec.{leb, ltb, eqb}
+use lib.ListN.{set, getD}
+use lib.IntN.{ℤ, pos, negsuc}
+use mir.Val.{SFits, toZ, ofZ}
+use mir.Syntax.{w8, w16}
+use mir.Facts.{toZ-ofZ}
+use borrow.Author.Tests.{le-leb, lt-leb, lt-ltb, le-ltb, ltb-false, eq-eqb, ne-eqb, eqb-true}
+use Rattle.bits.specs.Bits.{bitsAt}
+use Rattle.reading.specs.Tree.{Part, Tree, done, _>>=_}
+use Rattle.reading.specs.Run.{fieldOf, accepted, refused, Outcome, skim}
+use Rattle.reading.specs.Room.{Room, room, pushed, Out, got, record-in, skimmed-by, exec}
+use Rattle.reading.proofs.Laws.{skimmed}
+use Rattle.reading.proofs.Rooms.{go-on, _then_, exec-bind}
+use Rattle.syntax.specs.Records.{part, outcome, goingAt, haltedAt}
+use Rattle.syntax.specs.Rooms.{Fills}
+use Rattle.syntax.specs.declared.Cursor.{Cursor}
+use Rattle.slots.specs.Held.{Held}
+use Rattle.exponents.specs.Set.{setOf, SetRead}
+use Rattle.plan.specs.Taken.{taken}
+use Rattle.plan.specs.declared.Taken.{Taken}
+use Rattle.cells.specs.Cells.{State, state, cellOf, putIn, placeOf, sumOf, stored, signed, partOf}
+use Rattle.cells.specs.Names.{ABSEXP, BLOCK}
+use Rattle.derivations.specs.Sets.{strategyOf, startOf, endOf, exponentsOf}
+use Rattle.derivations.specs.Shapes.{mantissasIn}
+use Rattle.rows.specs.Rows.{nameIn, widthIn, indexIn, keepIn, regionIn, slotIn}
+use Rattle.rows.specs.Steps.{inputIn, setIn}
+use Rattle.rows.specs.Reads.{looked, bitsOf, passedOf, Skimmed, recorded, Keeps, Looks, Sees, Takes, Gathers, setBy}
+use Rattle.rows.specs.declared.inputs.Look.{Look}
+use Rattle.rows.specs.declared.inputs.Set.{Set}
+
+-- bits that are passed over, and bits that are read
+module _ (l p d : ℕ) (b : Bool) (eb : b ≡ ltb l (p + d)) where
+  pub ends : b ≡ false → p + d ≤ l
+  ends h = ltb-false _ _ (sym eb ∙ h)
+
+  pub span-past : b ≡ true → (x : Look) → x ≡ looked 8 p 0 0 0 → x ≡ passedOf l p d
+  span-past h x e = rw (e, ← eb, h) refl
+
+  pub span-found : b ≡ false → looked 0 (p + d) d 0 0 ≡ passedOf l p d
+  span-found h = rw (← eb, h) refl
+
+  pub bits-past : (s : List ℕ) → b ≡ true → (x : Look) → x ≡ looked 8 p 0 0 0 → x ≡ bitsOf s l p d
+  bits-past s h x e = rw (e, ← eb, h) refl
+
+  pub bits-found : (s : List ℕ) → b ≡ false → (v : ℕ) → v ≡ bitsAt s p d → looked 0 (p + d) d v v ≡ bitsOf s l p d
+  bits-found s h v e = rw (e, ← eb, h) refl
+
+-- the mantissas
+module _ (s : List ℕ) (l p : ℕ) (st : State) (t : Taken) (e : taken t ≡ skim (mantissasIn st) s p l) where
+  pub mantissas-ahead : p ≤ t .place .0
+  mantissas-ahead = let z : t .place .0 ≡ skim (mantissasIn st) s p l .place = ap (λ (o : Outcome (List ℕ)). o .place) e in omega (arith, skimmed (mantissasIn st) s p l .ahead)
+
+  pub mantissas-past : ¬ (t .number ≡ 0) → (x : Look) → x ≡ looked (t .number) (t .place .0) 0 0 0 → Skimmed s l p st x
+  mantissas-past h x ex = rw ex (record {
+    is = sym e ∙ (rw (ne-eqb _ _ h) refl);
+    width = λ z. absurd (h z);
+    value = refl;
+  })
+
+  pub mantissas-found : t .number ≡ 0 → Skimmed s l p st (looked 0 (t .place .0) (t .place .0 - p) 0 (t .tags))
+  mantissas-found h = record { is = sym e ∙ (rw (eq-eqb _ _ h) refl); width = λ z. refl; value = refl }
+
+-- what a row of input finds, by its kind
+module _ (s : List ℕ) (l w : ℕ) (st : State) (p : ℕ) (x : Look) where
+  test : (a b : ℕ) (y z : Out State) → cond (leb a b) y z ≡ cond (ltb b a) z y
+  test a b y z = go (decLe a b)
+    where
+      go : Dec (a ≤ b) → cond (leb a b) y z ≡ cond (ltb b a) z y
+      go (yes h) = rw (le-leb _ _ h, le-ltb _ _ h) refl
+      go (no n) = let h : b < a = omega arith in rw (lt-leb _ _ h, lt-ltb _ _ h) refl
+
+  found : (c : Bool) (d v q : ℕ) (m : Room)
+      → cond c (got (refused 8) p q m) (record-in (fieldOf (partOf (nameIn w) (indexIn w) (st .cells)) p d v) q m (λ n m. got (accepted (stored st (placeOf (keepIn w) (st .cells)) v)) (p + d) n m))
+      ≡ recorded w (cond c (looked 8 p 0 0 0) (looked 0 (p + d) d v v)) st p q m
+  found true d v q m = refl
+  found false d v q m = refl
+
+  pub looks-bits : w % 16 < 3 → (d : ℕ) → d ≡ widthIn w → x ≡ bitsOf s l p d → Looks s l w st p x
+  unfolding exec inputIn
+  looks-bits h d ed ex = record {
+    is = λ q m. rw (lt-ltb _ _ h, ex, ed) (test (p + widthIn w) l _ _ ∙ found (ltb l (p + widthIn w)) (widthIn w) (bitsAt s p (widthIn w)) q m);
+  }
+
+  pub looks-span : 3 ≤ w % 16 → w % 16 < 4 → (d : ℕ) → d ≡ cellOf (st .cells) (regionIn w) → x ≡ passedOf l p d → Looks s l w st p x
+  unfolding exec inputIn
+  looks-span h n d ed ex = record {
+    is = λ q m. rw (le-ltb _ _ h, lt-ltb _ _ n, ex, ed) (test (p + cellOf (st .cells) (regionIn w)) l _ _ ∙ found (ltb l (p + cellOf (st .cells) (regionIn w))) (cellOf (st .cells) (regionIn w)) 0 q m);
+  }
+
+  walked-is : Skimmed s l p st x → (q : ℕ) (m : Room) → (b : Bool) → eqb (x .number) 0 ≡ b
+      → skimmed-by (cond b (accepted (x .stored ∷ [])) (refused (x .number))) (x .place) q m
+      (λ v e. record-in (fieldOf (partOf (nameIn w) (indexIn w) (st .cells)) p (e - p) 0) q m (λ n m. got (accepted (stored st (placeOf (keepIn w) (st .cells)) (getD v 0 0))) e n m))
+      ≡ cond b
+      (record-in (fieldOf (partOf (nameIn w) (indexIn w) (st .cells)) p (x .width) (x .value)) q m (λ n m. got (accepted (stored st (placeOf (keepIn w) (st .cells)) (x .stored))) (x .place) n m))
+      (got (refused (x .number)) (x .place) q m)
+  unfolding skimmed-by
+  walked-is h q m true e = rw (h .width (eqb-true _ _ e), h .value) refl
+  walked-is h q m false e = refl
+
+  pub looks-mantissas : 4 ≤ w % 16 → Skimmed s l p st x → Looks s l w st p x
+  unfolding exec inputIn
+  looks-mantissas h k = record {
+    is = λ q m. rw (le-ltb (w % 16) 3 (omega arith), le-ltb _ _ h) (
+        ap (λ (o : Outcome (List ℕ)). skimmed-by (o .result) (o .place) q m (λ v e. record-in (fieldOf (partOf (nameIn w) (indexIn w) (st .cells)) p (e - p) 0) q m (λ n m. got (accepted (stored st (placeOf (keepIn w) (st .cells)) (getD v 0 0))) e n m))) (k .is)
+        ∙ walked-is k q m (eqb (x .number) 0) refl
+        );
+  }
+
+-- recorded and stored
+module _ (w : ℕ) (cells : List ℕ) (p q : ℕ) (m : Room) (x : Look) where
+  pub keeps-missed : ¬ (x .number ≡ 0) → (c : Cursor) → c ≡ haltedAt (x .place) q (x .number) → Keeps w x cells p q m c cells m
+  keeps-missed h c e = record { is = λ b. rw (e, ne-eqb _ _ h) refl }
+
+  module _ (h : x .number ≡ 0) (most : ℕ) (fills : Fills most m) where
+    pub keeps-full : most ≤ q → (c : Cursor) → c ≡ haltedAt p q 33 → Keeps w x cells p q m c cells m
+    keeps-full k c e = record { is = λ b. rw (e, eq-eqb _ _ h, fills .is, le-leb _ _ k) refl }
+
+    pub keeps-made : q < most → (name : ℕ) → name ≡ nameIn w → (a : ℕ) → a ≡ cellOf cells BLOCK → (bl : ℤ) → bl ≡ signed 128 a → (z : ℕ) → z ≡ sumOf (indexIn w) cells → (ix : ℤ) → ix ≡ signed 32768 z
+        → (k : ℕ) → k ≡ placeOf (keepIn w) cells → (y : List ℕ) → y ≡ putIn cells k (x .stored) → (c : Cursor) → c ≡ goingAt (x .place) (q + 1)
+        → Keeps w x cells p q m c y (room (set (m .names) q name) (set (m .blocks) q bl) (set (m .indexes) q ix) (set (m .firsts) q p) (set (m .widths) q (x .width)) (set (m .values) q (x .value)))
+    unfolding pushed
+    keeps-made g name en a ea bl eb z ez ix ei k ek y ey c ec = record { is = λ b. rw (ec, ey, en, eb, ea, ei, ez, ek, eq-eqb _ _ h, fills .is, lt-leb _ _ g) refl }
+
+-- the parts of a record are small
+block-fits : (n : ℕ) → SFits w8 (signed 128 n)
+block-fits n = by (eqb (n % 128) 0)
+  where
+    by : (c : Bool) → SFits w8 (cond c (negsuc 0) (pos (n % 128 - 1)))
+    by true = record { sfits = omega arith }
+    by false = record { sfits = omega arith }
+
+index-fits : (n : ℕ) → SFits w16 (signed 32768 n)
+index-fits n = by (eqb (n % 32768) 0)
+  where
+    by : (c : Bool) → SFits w16 (cond c (negsuc 0) (pos (n % 32768 - 1)))
+    by true = record { sfits = omega arith }
+    by false = record { sfits = omega arith }
+
+-- what is found and stored is what is read
+pub takes : {s : List ℕ} {l w : ℕ} {cells : List ℕ} {p q : ℕ} {m : Room} {x : Look} {c : Cursor} {cells′ : List ℕ} {m′ : Room}
+    → Sees s l w cells p x → Keeps w x cells p q m c cells′ m′ → Takes s l w cells p q m c cells′ m′
+takes {q} {m} h k = record { is = λ b. k .is b ∙ sym (h .is b .is q m) }
+
+-- the mantissas, and a set of exponents
+module _ (s : List ℕ) (l w : ℕ) (bins cells : List ℕ) (p q : ℕ) (m : Room) where
+  pub gathers-mantissas : 4 ≤ w % 16 → w % 16 < 8 → Held bins → (x : Look) → Skimmed s l p (state cells bins) x → (c : Cursor) (cells′ : List ℕ) (m′ : Room) → Keeps w x cells p q m c cells′ m′
+      → Gathers s l w (state cells bins) p q m c (state cells′ bins) m′
+  gathers-mantissas lo hi h x sk c cells′ m′ k = record {
+    is = k .is bins ∙ sym (looks-mantissas s l w (state cells bins) p x lo sk .is q m) ∙ (rw (lt-ltb _ _ hi) refl);
+    held = h;
+    pointers = λ k h. refl;
+  }
+
+  -- of a set that was read, the state
+  module _ (x : Set) (ex : x ≡ setBy w cells) (c : Cursor) (bu : List ℕ) (m′ : Room)
+      (read : SetRead s l (part (x .name) (toZ w8 (ofZ w8 (x .block))) (toZ w16 (ofZ w16 (x .index)))) (x .slot) (x .strategy) (x .start) (x .end) (x .absexp) bins p q m c bu m′) where
+    set-told : outcome c (state cells bu) m′ ≡ exec s l (setIn w (state cells bins)) p q m
+    unfolding exponentsOf go-on exec
+    set-told = sym (ap (λ (u : Tree State). exec s l u p q m) same ∙ exec-bind s l (tree x) (λ b. done (state cells b)) p q m ∙ ap (λ (o : Out (List ℕ)). o then (λ b p n m. exec s l (done (state cells b)) p n m)) (sym (read .is)) ∙ by (c .stopped))
+      where
+        tree : Set → Tree (List ℕ)
+        tree y = setOf (part (y .name) (toZ w8 (ofZ w8 (y .block))) (toZ w16 (ofZ w16 (y .index)))) (y .slot) (y .strategy) (y .start) (y .end) (y .absexp) bins
+
+        same : setIn w (state cells bins) ≡ (tree x >>= (λ b. done (state cells b)))
+        same =
+            let y = setBy w cells in
+            ap (λ (q : Part). setOf q (y .slot) (y .strategy) (y .start) (y .end) (y .absexp) bins >>= (λ b. done (state cells b)))
+            (ap₂ (λ (b i : ℤ). part (nameIn w) b i) (sym (toZ-ofZ (block-fits (cellOf cells BLOCK)))) (sym (toZ-ofZ (index-fits (sumOf (indexIn w) cells)))))
+            ∙ ap (λ (y : Set). tree y >>= (λ b. done (state cells b))) (sym ex)
+
+        by : (d : Bool) → go-on (cond d (refused (c .number)) (accepted bu)) (c .at .0) (c .count) m′ (λ b p n m. exec s l (done (state cells b)) p n m) ≡ got (cond d (refused (c .number)) (accepted (state cells bu))) (c .at .0) (c .count) m′
+        by true = refl
+        by false = refl
+
+    pub gathers-set : 8 ≤ w % 16 → Gathers s l w (state cells bins) p q m c (state cells bu) m′
+    gathers-set h = record { is = set-told ∙ (rw (le-ltb _ _ h) refl); held = read .held; pointers = read .laid .pointers }
+
+-- what a set of exponents is read with
+pub set-is : (w : ℕ) (m : List ℕ) (name : ℕ) → name ≡ nameIn w → (a : ℕ) → a ≡ cellOf m BLOCK → (bl : ℤ) → bl ≡ signed 128 a → (z : ℕ) → z ≡ sumOf (indexIn w) m → (ix : ℤ) → ix ≡ signed 32768 z
+    → (n : ℕ) → n ≡ sumOf (slotIn w) m % 256 → (sg : ℕ) → sg ≡ strategyOf m n → (from : ℕ) → from ≡ startOf m n → (to : ℕ) → to ≡ endOf m n → (ab : ℕ) → ab ≡ cellOf m ABSEXP
+    → record { name = name; block = bl; index = ix; slot = n; strategy = sg % 256; start = from; end = to; absexp = ab % 16 } ≡ setBy w m
+set-is w m name en a ea bl eb z ez ix ei n es sg eg from ef to et ab eab = rw (en, eb, ea, ei, ez, eg, ef, et, eab, es) refl

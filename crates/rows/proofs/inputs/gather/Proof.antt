@@ -1,0 +1,26 @@
+use borrow.Author.Needs.{needs}
+use Rattle.rows.proofs.Takes.{gathers-mantissas, gathers-set}
+use Rattle.rows.proofs.inputs.gather.Statement.{statement}
+use Rattle.rows.proofs.inputs.gather.Tie as tie
+
+mantissas-requires : tie.Need-mantissas-requires
+mantissas-requires c κs = (c .before .before .before .before .before .before .before .before .pre .held .size, c .before .before .before .before .before .before .before .before .pre .within)
+
+keep-requires : tie.Need-keep-requires
+keep-requires c κs = c .before .before .before .before .before .before .before .before .before .before .before .before .before .before .before .before .pre .fills
+
+returns : tie.Need-returns
+returns c = gathers-mantissas _ _ _ _ _ _ _ _ (c .before .before .before .before .before .before .before .before .before .before .before .before .before .before .before .before .before .before .before .before .before .before .before .before .before .before .before .pre .kind) (c .before .before .before .before .before .before .before .before .before .before .before .before .before .before .before .before .before .before .before .before .before .if1 .taken) (c .before .before .before .before .before .before .before .before .before .before .before .before .before .before .before .before .before .before .before .before .before .before .before .before .before .before .before .pre .held) _ (c .before .before .before .before .before .before .before .before .before .before .before .before .before .before .before .before .before .before .mantissas .ensures) (c .before .before .before .before .before .before .before .before .before .before .keep .result) _ _ (c .before .before .before .before .before .before .before .before .before .before .keep .ensures)
+
+read-exponents-requires : tie.Need-read-exponents-requires
+read-exponents-requires c κs = record { within = c .before .before .before .before .before .before .before .before .before .before .before .before .before .before .before .before .before .pre .within; fills = c .before .before .before .before .before .before .before .before .before .before .before .before .before .before .before .before .before .pre .fills; held = c .before .before .before .before .before .before .before .before .before .before .before .before .before .before .before .before .before .pre .held; small = c .before .before .before .before .before .before .before .before .before .set-of .ensures .1 }
+
+returns-2 : tie.Need-returns-2
+returns-2 c = gathers-set _ _ _ _ _ _ _ _ (c .before .before .before .before .before .before .before .before .before .before .before .before .before .before .before .before .before .before .before .before .set-of .result) (c .before .before .before .before .before .before .before .before .before .before .before .before .before .before .before .before .before .before .before .before .set-of .ensures .0) (c .before .before .before .before .before .before .before .before .before .before .read-exponents .result) _ _ (c .before .before .before .before .before .before .before .before .before .before .read-exponents .ensures) (c .before .before .before .before .before .before .before .before .before .before .before .before .before .before .before .before .before .before .before .before .before .before .if1 .left)
+
+pub gather-spec : {M : Type 1} → statement M
+gather-spec =
+    tie.close (tie.spec mantissas-requires keep-requires (λ c. search needs) (λ c. search needs) (λ c. search needs)
+    (λ c. search needs) (λ c. search needs) (λ c. search needs) returns (λ c κs. search needs) read-exponents-requires
+    (λ c. search needs) (λ c. search needs) (λ c. search needs) (λ c. search needs) (λ c. search needs)
+    (λ c. search needs) returns-2)

@@ -1,0 +1,4 @@
+pub mod Syntax
+pub mod Rows
+pub mod Steps
+pub mod Reads

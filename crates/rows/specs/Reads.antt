@@ -1,0 +1,99 @@
+-- What the functions ask that read and record, and what they tell.
+use Prim.Native.Nat.{ℕ, _+_, _-_, _*_, _%_, _≤_, _<_}
+use mathlib.Core.Bool.{cond}
+use mathlib.Core.List.{List, [], _∷_}
+use mathlib.Core.Path.{_≡_}
+use lib.Dec.{ltb, eqb}
+use lib.ListN.{length, getD}
+use Rattle.bits.specs.Bits.{bitsAt}
+use Rattle.reading.specs.Run.{accepted, refused, out, skim, fieldOf}
+use Rattle.reading.specs.Room.{Room, Out, got, record-in, exec}
+use Rattle.syntax.specs.Records.{outcome}
+use Rattle.syntax.specs.Rooms.{Fills}
+use Rattle.syntax.specs.declared.Cursor.{Cursor}
+use Rattle.slots.specs.Held.{Held}
+use Rattle.cells.specs.Cells.{State, state, cellOf, placeOf, sumOf, stored, signed, partOf}
+use Rattle.cells.specs.Names.{ABSEXP, BLOCK}
+use Rattle.derivations.specs.Sets.{strategyOf, startOf, endOf}
+use Rattle.derivations.specs.Shapes.{mantissasIn}
+use Rattle.rows.specs.Rows.{nameIn, indexIn, keepIn, slotIn, widthIn}
+use Rattle.rows.specs.Steps.{inputIn, setIn}
+use Rattle.rows.specs.declared.inputs.Look.{Look}
+use Rattle.rows.specs.declared.inputs.Set.{Set}
+
+-- no element is too wide, and the frame ends within the data
+pub record Wide (s : List ℕ) (l w : ℕ) : Type 0 where
+  pub narrow : w % 16 < 3 → widthIn w ≤ 25
+  pub within : l ≤ 8 * length s
+
+pub record Ready (s : List ℕ) (l w most : ℕ) (m : Room) : Type 0 where
+  pub wide : Wide s l w
+  pub fills : Fills most m
+
+-- what a row of input finds: 0 with the place after it, its width, the value that is recorded and the value that is stored; or a refusal and its place
+abbrev pub looked : ℕ → ℕ → ℕ → ℕ → ℕ → Look
+looked n e w v k = record { number = n; place = e; width = w; value = v; stored = k }
+
+-- bits that are read, and bits that are passed over
+abbrev pub bitsOf : List ℕ → ℕ → ℕ → ℕ → Look
+bitsOf s l p w = cond (ltb l (p + w)) (looked 8 p 0 0 0) (looked 0 (p + w) w (bitsAt s p w) (bitsAt s p w))
+
+abbrev pub passedOf : ℕ → ℕ → ℕ → Look
+passedOf l p w = cond (ltb l (p + w)) (looked 8 p 0 0 0) (looked 0 (p + w) w 0 0)
+
+-- the mantissas of the block
+pub record Skimmed (s : List ℕ) (l p : ℕ) (st : State) (x : Look) : Type 0 where
+  pub is : skim (mantissasIn st) s p l ≡ out (cond (eqb (x .number) 0) (accepted (x .stored ∷ [])) (refused (x .number))) (x .place) []
+  pub width : x .number ≡ 0 → x .width ≡ x .place - p
+  pub value : x .value ≡ 0
+
+-- what is done with it: a record is made and a value is stored, or a refusal stands
+abbrev pub recorded : ℕ → Look → State → ℕ → ℕ → Room → Out State
+recorded w x st p q m =
+    cond (eqb (x .number) 0)
+    (record-in (fieldOf (partOf (nameIn w) (indexIn w) (st .cells)) p (x .width) (x .value)) q m
+    (λ n m. got (accepted (stored st (placeOf (keepIn w) (st .cells)) (x .stored))) (x .place) n m))
+    (got (refused (x .number)) (x .place) q m)
+
+-- this was done: at the place p, with q records in the room, whatever the bins are
+pub record Keeps (w : ℕ) (x : Look) (cells : List ℕ) (p q : ℕ) (m : Room) (c : Cursor) (cells′ : List ℕ) (m′ : Room) : Type 0 where
+  pub is : (b : List ℕ) → outcome c (state cells′ b) m′ ≡ recorded w x (state cells b) p q m
+
+-- a row of input finds this at the place p; an element or a span does, whatever the bins are
+pub record Looks (s : List ℕ) (l w : ℕ) (st : State) (p : ℕ) (x : Look) : Type 0 where
+  pub is : (q : ℕ) (m : Room) → exec s l (inputIn w st) p q m ≡ recorded w x st p q m
+
+pub record Sees (s : List ℕ) (l w : ℕ) (cells : List ℕ) (p : ℕ) (x : Look) : Type 0 where
+  pub is : (b : List ℕ) → Looks s l w (state cells b) p x
+
+-- an element or a span was read once
+pub record Takes (s : List ℕ) (l w : ℕ) (cells : List ℕ) (p q : ℕ) (m : Room) (c : Cursor) (cells′ : List ℕ) (m′ : Room) : Type 0 where
+  pub is : (b : List ℕ) → outcome c (state cells′ b) m′ ≡ exec s l (inputIn w (state cells b)) p q m
+
+-- the mantissas or a set of exponents are to be read: the frame ends within the data, the bins are held, and so many records fit into the room
+pub record Opens (s : List ℕ) (l w : ℕ) (bins : List ℕ) (most : ℕ) (m : Room) : Type 0 where
+  pub kind : 4 ≤ w % 16
+  pub within : l ≤ 8 * length s
+  pub held : Held bins
+  pub fills : Fills most m
+
+-- they were read: the mantissas by a row of a kind below 8. No pointer is changed
+pub record Gathers (s : List ℕ) (l w : ℕ) (st : State) (p q : ℕ) (m : Room) (c : Cursor) (st′ : State) (m′ : Room) : Type 0 where
+  pub is : outcome c st′ m′ ≡ exec s l (cond (ltb (w % 16) 8) (inputIn w st) (setIn w st)) p q m
+  pub held : Held (st′ .bins)
+  pub pointers : (k : ℕ) → 1792 ≤ k → getD (st′ .bins) k 0 ≡ getD (st .bins) k 0
+
+-- what a set of exponents is read with
+abbrev pub setBy : ℕ → List ℕ → Set
+setBy w m =
+    let n = sumOf (slotIn w) m % 256 in
+    record {
+      name = nameIn w;
+      block = signed 128 (cellOf m BLOCK);
+      index = signed 32768 (sumOf (indexIn w) m);
+      slot = n;
+      strategy = strategyOf m n % 256;
+      start = startOf m n;
+      end = endOf m n;
+      absexp = cellOf m ABSEXP % 16;
+    }

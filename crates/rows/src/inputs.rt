@@ -1,0 +1,294 @@
+// Input and output: bits are looked at, a record is made, a value is stored.
+ghost use mathlib.Core.Path.{_≡_};
+ghost use Prim.Native.Nat.{_+_, _*_, _%_, _≤_, _<_};
+ghost use lib.Dec.{ltb};
+ghost use lib.ListN.{length};
+ghost use Rattle.reading.specs.Room.{room};
+ghost use Rattle.syntax.specs.Rooms.{Fills};
+ghost use Rattle.cells.specs.Cells.{state};
+ghost use Rattle.rows.specs.Reads.{Wide, Ready, looked, bitsOf, passedOf, Skimmed, Keeps, Sees, Takes, Opens, Gathers, setBy};
+use crate::fields::block_part;
+use crate::fields::index_of;
+use crate::fields::index_part;
+use crate::fields::keep_of;
+use crate::fields::name_of;
+use crate::fields::slot_of;
+use crate::fields::width_of;
+use bits::BitPlace;
+use bits::bits_at;
+use cells::cell_of;
+use cells::numbers::ABSEXP;
+use cells::numbers::BLOCK;
+use cells::put;
+use derivations::sets::end_of;
+use derivations::sets::start_of;
+use derivations::sets::strategy_of;
+use derivations::shapes::mantissas_in;
+use exponents::set::read_exponents;
+use syntax::Cursor;
+use syntax::going;
+use syntax::halted;
+
+// What a row of input finds: 0 with the place after it, its width, the value that is recorded and the value that is stored; or a refusal and its place.
+pub struct Look {
+    pub number: u8,
+    pub place: u16,
+    pub width: u16,
+    pub value: u32,
+    pub stored: u32,
+}
+
+// Whether so many bits would pass the limit.
+fn past(at: u16, width: u16, limit: u16) -> bool
+    ensures { λ r. ⌜ r ≡ ltb limit (at + width) ⌝ }
+{
+    (limit as u32) < at as u32 + width as u32
+}
+
+fn missed(number: u8, place: u16) -> Look
+    ensures { λ r. ⌜ r ≡ looked number place 0 0 0 ⌝ }
+{
+    Look {
+        number: number,
+        place: place,
+        width: 0,
+        value: 0,
+        stored: 0,
+    }
+}
+
+// The bits of an element; those of a span; the mantissas of the block.
+fn element(src: &[u8], at: u16, limit: u16, width: u16) -> Look
+    requires { ⌜ (width ≤ 25) × (limit ≤ 8 * length (now src)) ⌝ }
+    ensures { λ r. ⌜ r ≡ bitsOf (now (src .entry)) limit at width ⌝ }
+{
+    if past(at, width, limit) {
+        return missed(8, at);
+    }
+    let value = bits_at(src, at, width);
+    Look {
+        number: 0,
+        place: at + width,
+        width: width,
+        value: value,
+        stored: value,
+    }
+}
+
+fn span(at: u16, limit: u16, width: u16) -> Look
+    ensures { λ r. ⌜ r ≡ passedOf limit at width ⌝ }
+{
+    if past(at, width, limit) {
+        return missed(8, at);
+    }
+    Look {
+        number: 0,
+        place: at + width,
+        width: width,
+        value: 0,
+        stored: 0,
+    }
+}
+
+fn mantissas(src: &[u8], cells: &[u16; 1024], bins: &[u8; 3584], at: u16, limit: u16) -> Look
+    requires { ⌜ (length (now bins) ≡ 3584) × (limit ≤ 8 * length (now src)) ⌝ }
+    ensures { λ r. ⌜ Skimmed (now (src .entry)) limit at (state (now (cells .entry)) (now (bins .entry))) r ⌝ }
+{
+    let t = mantissas_in(src, cells, bins, BitPlace(at), BitPlace(limit));
+    let end = t.place.0;
+    if t.number != 0 {
+        return missed(t.number, end);
+    }
+    Look {
+        number: 0,
+        place: end,
+        width: end - at,
+        value: 0,
+        stored: t.tags as u32,
+    }
+}
+
+// What an element or a span finds at a place.
+fn seek(src: &[u8], cells: &[u16; 1024], at: u16, limit: u16, w: u64) -> Look
+    requires { ⌜ (Wide (now src) limit w) × (w % 16 < 4) ⌝ }
+    ensures { λ r. ⌜ Sees (now (src .entry)) limit w (now (cells .entry)) at r ⌝ }
+{
+    if w % 16 < 3 {
+        return element(src, at, limit, width_of(w));
+    }
+    span(
+        at,
+        limit,
+        cell_of(cells, (w / 17592186044416 % 1024) as usize),
+    )
+}
+
+// What is found is recorded and stored. 33 where there is no room.
+fn keep(
+    names: &mut [u8],
+    blocks: &mut [i8],
+    indexes: &mut [i16],
+    firsts: &mut [u16],
+    widths: &mut [u16],
+    values: &mut [u32],
+    cells: &mut [u16; 1024],
+    at: u16,
+    count: usize,
+    most: usize,
+    w: u64,
+    l: Look,
+) -> Cursor
+    requires { ⌜ Fills most (room (now names) (now blocks) (now indexes) (now firsts) (now widths) (now values)) ⌝ }
+    ensures { λ r. ⌜ Keeps w l (now (cells .entry)) at count (room (now (names .entry)) (now (blocks .entry)) (now (indexes .entry)) (now (firsts .entry)) (now (widths .entry)) (now (values .entry)))
+        r (now (cells .exit)) (room (now (names .exit)) (now (blocks .exit)) (now (indexes .exit)) (now (firsts .exit)) (now (widths .exit)) (now (values .exit))) ⌝ }
+{
+    let number = l.number;
+    let place = l.place;
+    let width = l.width;
+    let value = l.value;
+    let stored = l.stored;
+    if number != 0 {
+        return halted(BitPlace(place), count, number);
+    }
+    if most <= count {
+        return halted(BitPlace(at), count, 33);
+    }
+    names[count] = name_of(w);
+    blocks[count] = block_part(cell_of(cells, BLOCK));
+    indexes[count] = index_part(index_of(w, cells));
+    firsts[count] = at;
+    widths[count] = width;
+    values[count] = value;
+    let k = keep_of(w, cells);
+    put(cells, k, stored);
+    going(BitPlace(place), count + 1)
+}
+
+// What an element or a span reads, once.
+pub fn take(
+    src: &[u8],
+    names: &mut [u8],
+    blocks: &mut [i8],
+    indexes: &mut [i16],
+    firsts: &mut [u16],
+    widths: &mut [u16],
+    values: &mut [u32],
+    cells: &mut [u16; 1024],
+    at: u16,
+    count: usize,
+    limit: u16,
+    most: usize,
+    w: u64,
+) -> Cursor
+    requires { ⌜ (Ready (now src) limit w most (room (now names) (now blocks) (now indexes) (now firsts) (now widths) (now values))) × (w % 16 < 4) ⌝ }
+    ensures { λ r. ⌜ Takes (now (src .entry)) limit w (now (cells .entry)) at count (room (now (names .entry)) (now (blocks .entry)) (now (indexes .entry)) (now (firsts .entry)) (now (widths .entry)) (now (values .entry)))
+        r (now (cells .exit)) (room (now (names .exit)) (now (blocks .exit)) (now (indexes .exit)) (now (firsts .exit)) (now (widths .exit)) (now (values .exit))) ⌝ }
+{
+    let l = seek(src, cells, at, limit, w);
+    keep(
+        names,
+        blocks,
+        indexes,
+        firsts,
+        widths,
+        values,
+        cells,
+        at,
+        count,
+        most,
+        w,
+        l,
+    )
+}
+
+// What a set of exponents is read with.
+pub struct Set {
+    pub name: u8,
+    pub block: i8,
+    pub index: i16,
+    pub slot: u8,
+    pub strategy: u8,
+    pub start: u16,
+    pub end: u16,
+    pub absexp: u8,
+}
+
+// The set of exponents of a row.
+fn set_of(w: u64, cells: &[u16; 1024]) -> Set
+    ensures { λ r. ⌜ (r ≡ setBy w (now (cells .entry))) × (r .absexp ≤ 15) ⌝ }
+{
+    let slot = slot_of(w, cells);
+    Set {
+        name: name_of(w),
+        block: block_part(cell_of(cells, BLOCK)),
+        index: index_part(index_of(w, cells)),
+        slot: slot,
+        strategy: (strategy_of(cells, slot) % 256) as u8,
+        start: start_of(cells, slot),
+        end: end_of(cells, slot),
+        absexp: (cell_of(cells, ABSEXP) % 16) as u8,
+    }
+}
+
+// What the mantissas of a block read, or a set of exponents.
+pub fn gather(
+    src: &[u8],
+    names: &mut [u8],
+    blocks: &mut [i8],
+    indexes: &mut [i16],
+    firsts: &mut [u16],
+    widths: &mut [u16],
+    values: &mut [u32],
+    cells: &mut [u16; 1024],
+    bins: &mut [u8; 3584],
+    at: u16,
+    count: usize,
+    limit: u16,
+    most: usize,
+    w: u64,
+) -> Cursor
+    requires { ⌜ Opens (now src) limit w (now bins) most (room (now names) (now blocks) (now indexes) (now firsts) (now widths) (now values)) ⌝ }
+    ensures { λ r. ⌜ Gathers (now (src .entry)) limit w (state (now (cells .entry)) (now (bins .entry))) at count (room (now (names .entry)) (now (blocks .entry)) (now (indexes .entry)) (now (firsts .entry)) (now (widths .entry)) (now (values .entry)))
+        r (state (now (cells .exit)) (now (bins .exit))) (room (now (names .exit)) (now (blocks .exit)) (now (indexes .exit)) (now (firsts .exit)) (now (widths .exit)) (now (values .exit))) ⌝ }
+{
+    if w % 16 < 8 {
+        let l = mantissas(src, cells, bins, at, limit);
+        return keep(
+            names,
+            blocks,
+            indexes,
+            firsts,
+            widths,
+            values,
+            cells,
+            at,
+            count,
+            most,
+            w,
+            l,
+        );
+    }
+    let x = set_of(w, cells);
+    read_exponents(
+        src,
+        names,
+        blocks,
+        indexes,
+        firsts,
+        widths,
+        values,
+        bins,
+        at,
+        count,
+        limit,
+        most,
+        x.name,
+        x.block,
+        x.index,
+        x.slot,
+        x.strategy,
+        x.start,
+        x.end,
+        x.absexp,
+    )
+}
