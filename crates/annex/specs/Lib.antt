@@ -1,7 +1,9 @@
-pub mod Cells
-pub mod ActNumbers
 pub mod Syncinfo
 pub mod Bsi
 pub mod Audfrm
 pub mod Audblk
 pub mod Annex
+pub mod Tail
+pub mod Frame
+pub mod Table
+pub mod Edges

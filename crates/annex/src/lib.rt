@@ -1,4 +1,12 @@
-// The syntax of Annex E (A/52, TS 102 366), one page a section: specs/Syncinfo, Bsi, Audfrm and Audblk. The code has the
-// numbers of its cells and derivations.
-pub mod acts;
-pub mod cells;
+// The syntax of Annex E as a table of rows.
+pub mod table;
+
+ghost use Rattle.annex.specs.Table.{Annexed};
+use table::TABLE;
+
+// The rows of the header, of the body and of the tail.
+pub fn annex() -> [u64; 512]
+    ensures { λ r. ⌜ Annexed r ⌝ }
+{
+    TABLE
+}

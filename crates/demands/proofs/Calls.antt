@@ -10,8 +10,8 @@ use Rattle.reading.specs.Run.{Field, Entry, Result, accepted, refused, Outcome}
 use Rattle.reading.specs.Room.{Room, size, cut, fill, Out, into}
 use Rattle.reading.specs.Frame.{parse}
 use Rattle.reading.specs.CommonReading.{list}
-use Rattle.walk.specs.Cells.{State}
-use Rattle.eac3.specs.Frame.{eac3}
+use Rattle.cells.specs.Cells.{State}
+use Rattle.annex.specs.Frame.{eac3}
 use Rattle.eac3.specs.Answer.{answered, answerBy, answerOf, countOf}
 use Rattle.eac3.specs.declared.answer.Answer.{Answer}
 use Rattle.eac3.specs.declared.answer.Verdict.the-variants.{Accepted, Refused}

@@ -9,8 +9,8 @@ use lib.ListN.{length, getElem?, length-map}
 use Rattle.reading.specs.Run.{Field, Entry, end, Outcome}
 use Rattle.reading.specs.Room.{size}
 use Rattle.reading.specs.CommonReading.{Case, Stand, Excepted, list}
-use Rattle.eac3.specs.Frame.{announcedBy, eac3}
-use Rattle.eac3.proofs.Header.{eac3-common-reading}
+use Rattle.annex.specs.Frame.{announcedBy, eac3}
+use Rattle.annex.proofs.Header.{eac3-common-reading}
 use Rattle.demands.specs.Calls.{Call, count, nth, Accepts, Refuses}
 use Rattle.demands.specs.Common.{Pair, Stands, CommonReading}
 use Rattle.demands.proofs.Calls.{outcome, accepts, refuses, counts, holds, held}

@@ -17,8 +17,8 @@ use Rattle.reading.specs.CommonReading.{Holds}
 use Rattle.reading.proofs.Laws.{tiled, tiled-after}
 use Rattle.reading.proofs.Rooms.{cut-same}
 use Rattle.reading.proofs.Frames.{whole, parse-whole, whole-ends}
-use Rattle.eac3.specs.Frame.{announcedBy, eac3}
-use Rattle.eac3.proofs.Header.{tells}
+use Rattle.annex.specs.Frame.{announcedBy, eac3}
+use Rattle.annex.proofs.Header.{tells}
 use Rattle.demands.specs.Calls.{Call, count, nth, Accepts}
 use Rattle.demands.specs.Gapless.{Gapless}
 use Rattle.demands.proofs.Calls.{outcome, accepts, counts, bytes, holds}

@@ -7,7 +7,7 @@ use lib.ListN.{take}
 use Rattle.reading.specs.Run.{end}
 use Rattle.reading.specs.Room.{size}
 use Rattle.reading.specs.CommonReading.{FirstDiffer, Holds, Excepted, Bytes, SameSpans, answer}
-use Rattle.eac3.specs.Frame.{announcedBy, eac3}
+use Rattle.annex.specs.Frame.{announcedBy, eac3}
 use Rattle.demands.specs.Calls.{Call, count, nth, Accepts, Refuses}
 
 -- two buffers that both hold the frames that they announce, and first differ at d, inside the first one's frame

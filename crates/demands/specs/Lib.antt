@@ -1,3 +1,4 @@
 pub mod Calls
 pub mod Gapless
 pub mod Common
+pub mod Suffices

@@ -9,11 +9,11 @@ use Rattle.reading.specs.Run.{Result, accepted, refused}
 use Rattle.reading.specs.Room.{Room, size, cut, Out, into}
 use Rattle.syntax.specs.Records.{resultOf}
 use Rattle.syntax.specs.declared.Cursor.{Cursor}
-use Rattle.walk.specs.Cells.{State, cellOf}
-use Rattle.walk.specs.Shapes.{flagOf, flagsOf, valuesOf}
-use Rattle.walk.specs.CellNames.{FSCOD, LFEON, NUMBLKS, AHTINU}
-use Rattle.annex.specs.Cells.{BSID, ACMOD, STRMTYP, SUBSTREAMID, BLOCK-STARTS, MANTISSA-STARTS, AUDIO-END, AHT-TAGS, SPX-BLOCKS, CPL-BLOCKS}
-use Rattle.eac3.specs.Frame.{eac3}
+use Rattle.cells.specs.Cells.{State, cellOf}
+use Rattle.cells.specs.Names.{ACMOD, AHT-TAGS, AHTINU, AUDIO-END, BLOCK-STARTS, BSID, CPL-BLOCKS, FSCOD, LFEON, MANTISSA-STARTS, NUMBLKS, SPX-BLOCKS, STRMTYP, SUBSTREAMID}
+use Rattle.derivations.specs.Blocks.{flagOf}
+use Rattle.derivations.specs.Shapes.{flagsOf, valuesOf}
+use Rattle.annex.specs.Frame.{eac3}
 use Rattle.eac3.specs.declared.answer.Frame.{Frame}
 use Rattle.eac3.specs.declared.answer.Answer.{Answer}
 use Rattle.eac3.specs.declared.answer.Verdict.{Verdict}
@@ -79,8 +79,8 @@ pub record Called (s : List ℕ) (m : Room) (a : Answer) (m′ : Room) : Type 0 
   pub left : m′ ≡ answered s m .left
 
 -- the same of a cursor
-abbrev pub toldOf : Cursor → List ℕ → Answer
-toldOf c m = cond (c .stopped) (record { verdict = Refused (c .number) (c .at .0) (c .count); frame = nothing }) (record { verdict = Accepted; frame = frameOf m (c .at .0) (c .count) })
+abbrev pub answerFrom : Cursor → List ℕ → Answer
+answerFrom c m = cond (c .stopped) (record { verdict = Refused (c .number) (c .at .0) (c .count); frame = nothing }) (record { verdict = Accepted; frame = frameOf m (c .at .0) (c .count) })
 
 -- document 01's number of an answer, 0 for an accepted frame; its place; and the records that were written
 abbrev pub numberBy : Verdict → ℕ

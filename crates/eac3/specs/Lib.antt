@@ -1,4 +1,2 @@
-pub mod Frame
 pub mod Answer
 pub mod Parts
-pub mod Edges

@@ -1,19 +1,14 @@
 // What the entry answers: an accepted frame, or one numbered refusal.
 ghost use mathlib.Core.Path.{_≡_};
-ghost use Rattle.walk.specs.Cells.{state};
-ghost use Rattle.eac3.specs.Answer.{nothing, frameOf, answerOf, toldOf};
-use annex::cells as c;
+ghost use Rattle.eac3.specs.Answer.{nothing, frameOf, answerOf, answerFrom};
 use bits::BitPlace;
 use bits::ByteCount;
+use cells::cell_of;
+use cells::numbers as c;
+use derivations::flags::flag;
+use derivations::shapes::seven_flags;
+use derivations::shapes::six_values;
 use syntax::Cursor;
-use walk::cells::AHTINU;
-use walk::cells::FSCOD;
-use walk::cells::LFEON;
-use walk::cells::NUMBLKS;
-use walk::cells::cell_of;
-use walk::shapes::flag;
-use walk::shapes::seven_flags;
-use walk::shapes::six_values;
 
 // An accepted frame, or the refusal's number, its bit place, and the records that were written.
 pub enum Verdict {
@@ -71,24 +66,24 @@ fn none() -> Frame
 }
 
 // What the cells tell of an accepted frame that ends at a place.
-fn frame_of(cells: &[u16; 640], at: BitPlace, count: usize) -> Frame
+fn frame_of(cells: &[u16; 1024], at: BitPlace, count: usize) -> Frame
     ensures { λ r. ⌜ r ≡ frameOf (now (cells .entry)) (at .0) count ⌝ }
 {
     let bytes = at.bytes();
-    let bsid = cell_of(cells, c::BSID as usize);
-    let acmod = cell_of(cells, c::ACMOD as usize);
-    let lfeon = flag(cells, LFEON);
-    let fscod = cell_of(cells, FSCOD);
-    let strmtyp = cell_of(cells, c::STRMTYP as usize);
-    let substreamid = cell_of(cells, c::SUBSTREAMID as usize);
-    let numblks = cell_of(cells, NUMBLKS);
-    let block_starts = six_values(cells, c::BLOCK_STARTS as usize);
-    let mantissa_starts = six_values(cells, c::MANTISSA_STARTS as usize);
-    let audio_end = cell_of(cells, c::AUDIO_END as usize);
-    let aht_tags = cell_of(cells, c::AHT_TAGS as usize);
-    let aht_slots = seven_flags(cells, AHTINU);
-    let spx_blocks = cell_of(cells, c::SPX_BLOCKS as usize);
-    let cpl_blocks = cell_of(cells, c::CPL_BLOCKS as usize);
+    let bsid = cell_of(cells, c::BSID);
+    let acmod = cell_of(cells, c::ACMOD);
+    let lfeon = flag(cells, c::LFEON);
+    let fscod = cell_of(cells, c::FSCOD);
+    let strmtyp = cell_of(cells, c::STRMTYP);
+    let substreamid = cell_of(cells, c::SUBSTREAMID);
+    let numblks = cell_of(cells, c::NUMBLKS);
+    let block_starts = six_values(cells, c::BLOCK_STARTS);
+    let mantissa_starts = six_values(cells, c::MANTISSA_STARTS);
+    let audio_end = cell_of(cells, c::AUDIO_END);
+    let aht_tags = cell_of(cells, c::AHT_TAGS);
+    let aht_slots = seven_flags(cells, c::AHTINU);
+    let spx_blocks = cell_of(cells, c::SPX_BLOCKS);
+    let cpl_blocks = cell_of(cells, c::CPL_BLOCKS);
     Frame {
         bytes: bytes,
         fields: count,
@@ -110,8 +105,8 @@ fn frame_of(cells: &[u16; 640], at: BitPlace, count: usize) -> Frame
 }
 
 // The answer of a reading that has come to its end, or was stopped.
-pub fn answer_of(cur: Cursor, cells: &[u16; 640]) -> Answer
-    ensures { λ r. ⌜ r ≡ toldOf cur (now (cells .entry)) ⌝ }
+pub fn answer_of(cur: Cursor, cells: &[u16; 1024]) -> Answer
+    ensures { λ r. ⌜ r ≡ answerFrom cur (now (cells .entry)) ⌝ }
 {
     if cur.stopped {
         return Answer {

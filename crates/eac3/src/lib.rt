@@ -1,194 +1,74 @@
 // The reader of E-AC-3 syncframes (eac3.rs; A/52 Annex E, TS 102 366 Annex E).
 pub mod answer;
 
-ghost use mathlib.Core.Bool.{false};
 ghost use mathlib.Core.Path.{_≡_};
-ghost use Prim.Native.Nat.{_+_, _*_, _%_, _≤_};
+ghost use Prim.Native.Nat.{_+_, _-_, _*_, _%_, _≤_, _<_};
 ghost use lib.ListN.{length};
-ghost use Rattle.reading.specs.Frame.{sized as sizedBy};
 ghost use Rattle.reading.specs.Room.{room};
-ghost use Rattle.syntax.specs.Records.{told};
-ghost use Rattle.walk.specs.Cells.{state, cellOf};
-ghost use Rattle.walk.specs.CellNames.{FRMSIZ as frmsiz};
-ghost use Rattle.annex.specs.Annex.{body as bodyOfAnnex};
-ghost use Rattle.page.specs.Page.{Ready, Runs};
-ghost use Rattle.eac3.specs.Frame.{eac3};
+ghost use Rattle.cells.specs.Cells.{state, cellOf, putIn};
+ghost use Rattle.cells.specs.Names.{FRMSIZ as frmsiz, FRAME-END, AUXDATAE as auxdatae};
+ghost use Rattle.annex.specs.Frame.{start};
+ghost use Rattle.bits.specs.Bits.{bitsAt};
 ghost use Rattle.eac3.specs.Answer.{Called};
-ghost use Rattle.eac3.specs.Parts.{placed, followed, Tailed, Sized, Fresh, bodyOf, readOf};
+ghost use Rattle.eac3.specs.Parts.{Headed, Framed};
+use annex::annex;
 use answer::Answer;
 use answer::answer_of;
-use audblk::turns::audblks;
-use audfrm::audfrm;
 use bits::BitPlace;
 use bits::ByteCount;
-use bsi::bsi;
-use bsi::header;
-use frame::TailNames;
-use frame::read_tail;
-use names::numbers as n;
+use bits::bits_at;
+use cells::cell_of;
+use cells::numbers::AUXDATAE;
+use cells::numbers::FRAME_END;
+use cells::numbers::FRMSIZ;
+use cells::put;
 use syntax::Cursor;
-use syntax::going;
 use syntax::halted;
-use walk::cells::FRMSIZ;
-use walk::cells::cell_of;
+use syntax::least;
+use walk::each;
 
-// auxdata and errorcheck, after the body.
-fn tailed(
-    src: &[u8],
-    names: &mut [u8],
-    blocks: &mut [i8],
-    indexes: &mut [i16],
-    firsts: &mut [u16],
-    widths: &mut [u16],
-    values: &mut [u32],
-    cur: Cursor,
-    limit: BitPlace,
-) -> Cursor
-    requires { ⌜ limit .0 ≤ 8 * length (now src) ⌝ }
-    ensures { λ r. ⌜ Tailed (now (src .entry)) (limit .0) cur (room (now (names .entry)) (now (blocks .entry)) (now (indexes .entry)) (now (firsts .entry)) (now (widths .entry)) (now (values .entry))) r (room (now (names .exit)) (now (blocks .exit)) (now (indexes .exit)) (now (firsts .exit)) (now (widths .exit)) (now (values .exit))) ⌝ }
-{
-    if cur.stopped {
-        return cur;
-    }
-    let tail = TailNames {
-        auxbits: n::AUXBITS,
-        auxdatal: n::AUXDATAL,
-        auxdatae: n::AUXDATAE,
-        reserved: n::ENCINFO,
-        crc2: n::CRC2,
-    };
-    read_tail(
-        src,
-        names,
-        blocks,
-        indexes,
-        firsts,
-        widths,
-        values,
-        cur,
-        limit,
-        tail,
-    )
-}
+// Where the rows of the header end, those of the body and those of the tail; each part is run once.
+const AFTER_HEADER: usize = 6;
 
-// The body: bsi, audfrm and the blocks.
-fn body(
-    src: &[u8],
-    names: &mut [u8],
-    blocks: &mut [i8],
-    indexes: &mut [i16],
-    firsts: &mut [u16],
-    widths: &mut [u16],
-    values: &mut [u32],
-    cells: &mut [u16; 640],
-    bins: &mut [u8; 3584],
-    memo: &mut [u8; 2128],
-    cur: Cursor,
-    limit: BitPlace,
-) -> Cursor
-    requires { ⌜ Ready (now src) (limit .0) (now bins) (now memo) ⌝ }
-    ensures { λ r. ⌜ Runs (now (src .entry)) (limit .0) bodyOfAnnex cur (state (now (cells .entry)) (now (bins .entry))) (room (now (names .entry)) (now (blocks .entry)) (now (indexes .entry)) (now (firsts .entry)) (now (widths .entry)) (now (values .entry)))
-        r (state (now (cells .exit)) (now (bins .exit))) (room (now (names .exit)) (now (blocks .exit)) (now (indexes .exit)) (now (firsts .exit)) (now (widths .exit)) (now (values .exit))) (now (memo .exit)) ⌝ }
-{
-    let a = bsi(
-        src,
-        names,
-        blocks,
-        indexes,
-        firsts,
-        widths,
-        values,
-        cells,
-        bins,
-        memo,
-        cur,
-        limit,
-    );
-    let b = audfrm(
-        src,
-        names,
-        blocks,
-        indexes,
-        firsts,
-        widths,
-        values,
-        cells,
-        bins,
-        memo,
-        a,
-        limit,
-    );
-    audblks(
-        src,
-        names,
-        blocks,
-        indexes,
-        firsts,
-        widths,
-        values,
-        cells,
-        bins,
-        memo,
-        b,
-        limit,
-    )
-}
+const AFTER_BODY: usize = 496;
 
-// The frame from the end of the header to its own end.
-fn bodied(
-    src: &[u8],
-    names: &mut [u8],
-    blocks: &mut [i8],
-    indexes: &mut [i16],
-    firsts: &mut [u16],
-    widths: &mut [u16],
-    values: &mut [u32],
-    cells: &mut [u16; 640],
-    bins: &mut [u8; 3584],
-    memo: &mut [u8; 2128],
-    cur: Cursor,
-    limit: BitPlace,
-) -> Cursor
-    requires { ⌜ (Ready (now src) (limit .0) (now bins) (now memo)) × (cur .stopped ≡ false) ⌝ }
-    ensures { λ r. ⌜ told r (state (now (cells .exit)) (now (bins .exit))) (room (now (names .exit)) (now (blocks .exit)) (now (indexes .exit)) (now (firsts .exit)) (now (widths .exit)) (now (values .exit)))
-        ≡ placed (cur .count) (room (now (names .entry)) (now (blocks .entry)) (now (indexes .entry)) (now (firsts .entry)) (now (widths .entry)) (now (values .entry))) (bodyOf (now (src .entry)) (limit .0) (state (now (cells .entry)) (now (bins .entry))) (cur .at .0)) ⌝ }
-{
-    let c = body(
-        src,
-        names,
-        blocks,
-        indexes,
-        firsts,
-        widths,
-        values,
-        cells,
-        bins,
-        memo,
-        cur,
-        limit,
-    );
-    tailed(
-        src,
-        names,
-        blocks,
-        indexes,
-        firsts,
-        widths,
-        values,
-        c,
-        limit,
-    )
-}
+const AFTER_TAIL: usize = 512;
+
+const ONCE: u32 = 1;
 
 // How many bytes a frame has, by its header.
-fn bytes_of(cells: &[u16; 640]) -> ByteCount
+fn bytes_of(cells: &[u16; 1024]) -> ByteCount
     ensures { λ r. ⌜ (r .0 ≡ 2 * (cellOf (now (cells .entry)) frmsiz % 2048 + 1)) × (r .0 ≤ 4096) ⌝ }
 {
     ByteCount(2 * (cell_of(cells, FRMSIZ) % 2048 + 1))
 }
 
-// The frame after its header, if the slice holds it.
-fn sized(
+// A place has 16 bits.
+fn place(at: u16) -> u16
+    ensures { λ r. ⌜ (r ≡ at) × (r < 65536) ⌝ }
+{
+    at
+}
+
+fn less(a: u16, b: u16) -> u16
+    ensures { λ r. ⌜ r ≡ a - b ⌝ }
+{
+    if b < a { a - b } else { 0 }
+}
+
+// The cells of the tail: where the frame ends, and auxdatae, which is looked at ahead.
+fn tail_cells(src: &[u8], limit: u16) -> [u16; 1024]
+    requires { ⌜ (16 ≤ limit) × (limit ≤ 8 * length (now src)) ⌝ }
+    ensures { λ r. ⌜ r ≡ putIn (putIn (start .cells) FRAME-END limit) auxdatae (bitsAt (now (src .entry)) (limit - 18) 1) ⌝ }
+{
+    let mut cells: [u16; 1024] = [0; 1024];
+    put(&mut cells, FRAME_END, limit as u32);
+    put(&mut cells, AUXDATAE, bits_at(src, less(limit, 18), 1));
+    cells
+}
+
+// The frame after its header, if the slice holds it: the body, and then the tail.
+fn framed(
     src: &[u8],
     names: &mut [u8],
     blocks: &mut [i8],
@@ -196,14 +76,16 @@ fn sized(
     firsts: &mut [u16],
     widths: &mut [u16],
     values: &mut [u32],
-    cells: &mut [u16; 640],
+    table: &[u64; 512],
+    cells: &mut [u16; 1024],
     bins: &mut [u8; 3584],
     memo: &mut [u8; 2128],
+    most: usize,
     cur: Cursor,
 ) -> Cursor
-    requires { ⌜ Sized (now cells) (now bins) (now memo) cur ⌝ }
-    ensures { λ r. ⌜ told r (state (now (cells .exit)) (now (bins .exit))) (room (now (names .exit)) (now (blocks .exit)) (now (indexes .exit)) (now (firsts .exit)) (now (widths .exit)) (now (values .exit)))
-        ≡ followed cur (state (now (cells .entry)) (now (bins .entry))) (room (now (names .entry)) (now (blocks .entry)) (now (indexes .entry)) (now (firsts .entry)) (now (widths .entry)) (now (values .entry))) (sizedBy eac3 (now (src .entry))) ⌝ }
+    requires { ⌜ Headed (now table) (now cells) (now bins) (now memo) most (room (now names) (now blocks) (now indexes) (now firsts) (now widths) (now values)) cur ⌝ }
+    ensures { λ r. ⌜ Framed (now (src .entry)) cur (state (now (cells .entry)) (now (bins .entry))) (room (now (names .entry)) (now (blocks .entry)) (now (indexes .entry)) (now (firsts .entry)) (now (widths .entry)) (now (values .entry)))
+        r (now (cells .exit)) (room (now (names .exit)) (now (blocks .exit)) (now (indexes .exit)) (now (firsts .exit)) (now (widths .exit)) (now (values .exit))) ⌝ }
 {
     if cur.stopped {
         return cur;
@@ -212,7 +94,10 @@ fn sized(
     if src.len() < bytes.0 as usize {
         return halted(cur.at, cur.count, 4);
     }
-    bodied(
+    let end = bytes.bits();
+    let limit = end.0;
+    let c = each(
+        table,
         src,
         names,
         blocks,
@@ -223,41 +108,23 @@ fn sized(
         cells,
         bins,
         memo,
-        cur,
-        bytes.bits(),
-    )
-}
-
-// A slice of 6 bytes or more.
-fn read(
-    src: &[u8],
-    names: &mut [u8],
-    blocks: &mut [i8],
-    indexes: &mut [i16],
-    firsts: &mut [u16],
-    widths: &mut [u16],
-    values: &mut [u32],
-    cells: &mut [u16; 640],
-    bins: &mut [u8; 3584],
-    memo: &mut [u8; 2128],
-) -> Cursor
-    requires { ⌜ Fresh (now src) (now cells) (now bins) (now memo) ⌝ }
-    ensures { λ r. ⌜ told r (state (now (cells .exit)) (now (bins .exit))) (room (now (names .exit)) (now (blocks .exit)) (now (indexes .exit)) (now (firsts .exit)) (now (widths .exit)) (now (values .exit)))
-        ≡ placed 0 (room (now (names .entry)) (now (blocks .entry)) (now (indexes .entry)) (now (firsts .entry)) (now (widths .entry)) (now (values .entry))) (readOf (now (src .entry))) ⌝ }
-{
-    let cur = header(
-        src,
-        names,
-        blocks,
-        indexes,
-        firsts,
-        widths,
-        values,
-        cells,
-        going(BitPlace(0), 0),
-        BitPlace(48),
+        cur.at.0,
+        cur.count,
+        limit,
+        most,
+        AFTER_HEADER,
+        AFTER_BODY,
+        0,
+        ONCE,
+        0,
     );
-    sized(
+    if c.stopped {
+        return c;
+    }
+    let at = place(c.at.0);
+    let mut ends = tail_cells(src, limit);
+    each(
+        table,
         src,
         names,
         blocks,
@@ -265,10 +132,18 @@ fn read(
         firsts,
         widths,
         values,
-        cells,
+        &mut ends,
         bins,
         memo,
-        cur,
+        at,
+        c.count,
+        limit,
+        most,
+        AFTER_BODY,
+        AFTER_TAIL,
+        0,
+        ONCE,
+        0,
     )
 }
 
@@ -284,13 +159,23 @@ pub fn parse(
 ) -> Answer
     ensures { λ r. ⌜ Called (now (src .entry)) (room (now (names .entry)) (now (blocks .entry)) (now (indexes .entry)) (now (firsts .entry)) (now (widths .entry)) (now (values .entry))) r (room (now (names .exit)) (now (blocks .exit)) (now (indexes .exit)) (now (firsts .exit)) (now (widths .exit)) (now (values .exit))) ⌝ }
 {
-    let mut cells: [u16; 640] = [0; 640];
+    let mut cells: [u16; 1024] = [0; 1024];
     if src.len() < 6 {
         return answer_of(halted(BitPlace(0), 0, 1), &cells);
     }
+    let table = annex();
     let mut bins: [u8; 3584] = [0; 3584];
     let mut memo: [u8; 2128] = [0; 2128];
-    let cur = read(
+    let most = least(
+        names.len(),
+        blocks.len(),
+        indexes.len(),
+        firsts.len(),
+        widths.len(),
+        values.len(),
+    );
+    let cur = each(
+        &table,
         src,
         names,
         blocks,
@@ -301,6 +186,30 @@ pub fn parse(
         &mut cells,
         &mut bins,
         &mut memo,
+        0,
+        0,
+        48,
+        most,
+        0,
+        AFTER_HEADER,
+        0,
+        ONCE,
+        0,
     );
-    answer_of(cur, &cells)
+    let c = framed(
+        src,
+        names,
+        blocks,
+        indexes,
+        firsts,
+        widths,
+        values,
+        &table,
+        &mut cells,
+        &mut bins,
+        &mut memo,
+        most,
+        cur,
+    );
+    answer_of(c, &cells)
 }

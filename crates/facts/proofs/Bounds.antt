@@ -1,185 +1,253 @@
--- Cells within bounds. A computed test over a syntax shows that its reading keeps them, and that it puts nothing into a cell but what a second test allows. Assumes nothing.
-use mathlib.Core.Path.{_≡_, refl, sym, _∙_, subst}
-use mathlib.Core.Bool.{Bool, true, false, cond, not, _&&_, _||_}
+-- Cells within bounds, under puts that a test permits; and what is known of some cells besides. Assumes nothing.
+use mathlib.Core.Path.{_≡_, refl, ap, sym, _∙_, subst}
+use mathlib.Core.Bool.{Bool, true, false, cond, not, _&&_, _||_, true≢false}
 use mathlib.Core.List.{List, [], _∷_}
 use mathlib.Core.Logic.{_⊎_, inl, inr, by-cases}
 use Prim.Native.Nat.{ℕ, zero, suc, _+_, _-_, _*_, _%_, min, max, _≤_, _<_}
 use native.Mathlib.Omega.{arith}
-use native.Mathlib.Decide.{decLt, ℕ-discrete}
+use native.Mathlib.Decide.{ℕ-discrete}
 use native.Mathlib.Nat.{mul-le-mul-left}
 use lib.Dec.{eqb, leb, ltb}
-use lib.ListN.{length}
-use borrow.Author.Tests.{leb-true, leb-false, eqb-true, eqb-false}
-use Rattle.walk.specs.Cells.{cellOf, putIn, placeOf, heldOf}
-use Rattle.walk.specs.CellNames.{SLOT, NUMBLKS, NFCHANS, DELTNSEG, FIRSTCPLLEAK}
-use Rattle.walk.specs.Rows.{amountOf}
-use Rattle.walk.specs.declared.cells.Addr.{Addr}
-use Rattle.walk.specs.declared.table.Value.{Value}
-use Rattle.walk.specs.declared.table.Value.the-variants.{Here, Let, Less, Plus, Minus}
-use Rattle.annex.specs.Cells.{BLK, CH, SEG, SPXBEGF, SPXENDF, SPX-END, CPLBEGF, CPLENDF, CPLENDF-3, NCPLSUBND, NSEG, HELDEND}
-use Rattle.facts.proofs.Cells.{put-sized, put-zero, put-past, cell-same, cell-other}
-use Rattle.facts.proofs.Counts.{both}
+use lib.ListN.{replicate, length-replicate}
+use borrow.Author.Tests.{leb-true, leb-false, eqb-true, eqb-false, ltb-true}
+use Rattle.cells.specs.Cells.{Addr, cellOf, putIn, placeOf, heldOf}
+use Rattle.cells.specs.Names.{HELDEND}
+use Rattle.rows.specs.Syntax.{Value, Here, Let, Less, Plus, Minus, amountOf}
+use Rattle.facts.specs.Bounds.{Bound, bounds, mostIn, most, Within}
+use Rattle.cells.proofs.Cells.{put-sized, cell-other, cell-none}
+use Rattle.facts.proofs.Cells.{cell-mod, put-zero, cell-at, cell-beside}
 
--- the most that the cells from one to another ever hold
-abbrev pub Bound : Type 0
-Bound = ℕ × ℕ × ℕ
+pub both : (x y : Bool) → (x && y) ≡ true → (x ≡ true) × (y ≡ true)
+both true y h = (refl, h)
+both false y h = absurd (true≢false (sym h))
 
-abbrev pub one : ℕ → ℕ → Bound
-one k m = (k, k, m)
+-- no bound is above what a cell holds
+allWords : List Bound → Bool
+allWords [] = true
+allWords (r ∷ rs) = leb (r .2) 65535 && allWords rs
 
-unfoldable pub bounds : List Bound
-bounds =
-    one 0 0 ∷ one BLK 5 ∷ one CH 4 ∷ one SEG 7 ∷ one SLOT 6 ∷ one NUMBLKS 6 ∷ one NFCHANS 5 ∷ (DELTNSEG, DELTNSEG + 5, 8) ∷ one FIRSTCPLLEAK 1
-    ∷ one SPXBEGF 7 ∷ one SPXENDF 7 ∷ one SPX-END 17 ∷ one CPLBEGF 15 ∷ one CPLENDF 15 ∷ one CPLENDF-3 18 ∷ one NCPLSUBND 18 ∷ one NSEG 7
-    ∷ one (HELDEND + 6) 7 ∷ []
+mostIn-word : (rs : List Bound) (k : ℕ) → allWords rs ≡ true → mostIn rs k ≤ 65535
+unfolding mostIn allWords
+mostIn-word [] k h = omega arith
+mostIn-word (r ∷ rs) k h = go (leb (r .0) k && leb k (r .1)) (mostIn-word rs k (both (leb (r .2) 65535) (allWords rs) h .1))
+  where
+    go : (c : Bool) → mostIn rs k ≤ 65535 → cond c (r .2) (mostIn rs k) ≤ 65535
+    go true i = leb-true (r .2) 65535 (both (leb (r .2) 65535) (allWords rs) h .0)
+    go false i = i
 
-unfoldable pub mostIn : List Bound → ℕ → ℕ
-mostIn [] k = 65535
-mostIn (r ∷ rs) k = cond (leb (r .0) k && leb k (r .1)) (r .2) (mostIn rs k)
+pub most-word : (k : ℕ) → most k ≤ 65535
+unfolding most bounds allWords
+most-word k = mostIn-word bounds (k % 1024) refl
 
-unfoldable pub most : ℕ → ℕ
-most k = mostIn bounds k
+-- a cell holds less than 65,536
+pub word : (m : List ℕ) (j : ℕ) → Within m → cellOf m j < 65536
+word m j w = omega (arith, w .below j, most-word j)
 
--- the cells of a reading: 640, none above its bound, and the end of the exponents that are held for LFE is 0 or 7
-pub record Within (m : List ℕ) : Type 0 where
-  pub sized : length m ≡ 640
-  pub below : (j : ℕ) → cellOf m j ≤ most j
-  pub lfe : (cellOf m (HELDEND + 6) ≡ 0) ⊎ (cellOf m (HELDEND + 6) ≡ 7)
+most-mod : (x k : ℕ) → x % 1024 ≡ k → most x ≡ most k
+unfolding most
+most-mod x k e = let y : x % 1024 ≡ k % 1024 = omega arith in ap (mostIn bounds) y
 
 lfe-most : most (HELDEND + 6) ≡ 7
 unfolding most mostIn bounds
 lfe-most = refl
 
-module _ (user : ℕ → ℕ → ℕ → Bool) where
-  -- a value from a to z may be put into the cell j
+-- nothing is read yet
+pub none-within : Within (replicate 1024 0)
+none-within = record {
+  sized = length-replicate {A = ℕ} 1024 0;
+  below = λ j. let e = cell-none j in omega arith;
+  lfe = inl (cell-none _);
+}
+
+-- a test of puts: whether a value from a to z may be put into the cell j
+abbrev pub Test : Type 0
+Test = ℕ → ℕ → ℕ → Bool
+
+module _ (permits : Test) where
+  -- it is permitted, and within the bounds
   unfoldable pub allow : ℕ → ℕ → ℕ → Bool
-  allow j a z = eqb j 0 || (leb z (most j) && ((not (eqb j (HELDEND + 6)) || leb 7 a) && user j a z))
+  allow j a z = eqb j 0 || (leb z (most j) && ((not (eqb j (HELDEND + 6)) || leb 7 a) && permits j a z))
 
   -- into each of the n + 1 cells from j on
-  unfoldable pub may : ℕ → ℕ → ℕ → ℕ → Bool
-  may j zero a z = allow j a z
-  may j (suc n) a z = allow j a z && may (suc j) n a z
+  unfoldable pub allowEach : ℕ → ℕ → ℕ → ℕ → Bool
+  allowEach j zero a z = allow j a z
+  allowEach j (suc n) a z = allow j a z && allowEach (suc j) n a z
 
-  -- the value v of the cell j is one that the test allows
-  pub record Allowed (j v : ℕ) : Type 0 where
+  -- which are among the 1,024
+  unfoldable pub may : ℕ → ℕ → ℕ → ℕ → Bool
+  may j n a z = let r = allowEach j n a z in cond (ltb (j + n) 1024) r false
+
+  -- the value v of the cell j is one that the test permits
+  pub record Permitted (j v : ℕ) : Type 0 where
     pub least : ℕ
     pub greatest : ℕ
-    pub okay : user j least greatest ≡ true
+    pub okay : permits j least greatest ≡ true
     pub above : least ≤ v
     pub below : v ≤ greatest
 
-  -- from some cells to others: each cell is as before, or has a value that the test allows
-  pub record Goes (x y : List ℕ) : Type 0 where
+  -- from some cells to others: each is as before, or has a value that the test permits
+  pub record Changed (x y : List ℕ) : Type 0 where
     pub within : Within y
-    pub each : (j : ℕ) → (cellOf y j ≡ cellOf x j) ⊎ Allowed j (cellOf y j)
+    pub each : (j : ℕ) → j < 1024 → (cellOf y j ≡ cellOf x j) ⊎ Permitted j (cellOf y j)
 
-  pub goes-refl : (x : List ℕ) → Within x → Goes x x
-  goes-refl x w = record { within = w; each = λ j. inl refl }
+  pub changed-none : (x : List ℕ) → Within x → Changed x x
+  changed-none x w = record { within = w; each = λ j _. inl refl }
 
-  pub goes-trans : (x y z : List ℕ) → Goes x y → Goes y z → Goes x z
-  goes-trans x y z g h = record { within = h .within; each = λ j. go j (h .each j) (g .each j) }
+  pub changed-then : (x y z : List ℕ) → Changed x y → Changed y z → Changed x z
+  changed-then x y z g h = record { within = h .within; each = λ j i. go j (h .each j i) (g .each j i) }
     where
-      go : (j : ℕ) → (cellOf z j ≡ cellOf y j) ⊎ Allowed j (cellOf z j) → (cellOf y j ≡ cellOf x j) ⊎ Allowed j (cellOf y j) → (cellOf z j ≡ cellOf x j) ⊎ Allowed j (cellOf z j)
+      go : (j : ℕ) → (cellOf z j ≡ cellOf y j) ⊎ Permitted j (cellOf z j) → (cellOf y j ≡ cellOf x j) ⊎ Permitted j (cellOf y j) → (cellOf z j ≡ cellOf x j) ⊎ Permitted j (cellOf z j)
       go j (inl e) (inl f) = inl (e ∙ f)
-      go j (inl e) (inr a) = inr (subst (Allowed j) (sym e) a)
+      go j (inl e) (inr a) = inr (subst (Permitted j) (sym e) a)
       go j (inr a) f = inr a
 
-  may-at : (lo n a z j : ℕ) → may lo n a z ≡ true → lo ≤ j → j ≤ lo + n → allow j a z ≡ true
-  unfolding may
-  may-at lo zero a z j h i k = let e : lo ≡ j = omega arith in subst (λ x. allow x a z ≡ true) e h
-  may-at lo (suc n) a z j h i k =
+  each-at : (lo n a z j : ℕ) → allowEach lo n a z ≡ true → lo ≤ j → j ≤ lo + n → allow j a z ≡ true
+  unfolding allowEach
+  each-at lo zero a z j h i k = let e : lo ≡ j = omega arith in subst (λ x. allow x a z ≡ true) e h
+  each-at lo (suc n) a z j h i k =
       by-cases (ℕ-discrete lo j)
-      (λ e. subst (λ x. allow x a z ≡ true) e (both (allow lo a z) (may (suc lo) n a z) h .0))
-      (λ e. may-at (suc lo) n a z j (both (allow lo a z) (may (suc lo) n a z) h .1) (omega arith) (omega arith))
+      (λ e. subst (λ x. allow x a z ≡ true) e (both (allow lo a z) (allowEach (suc lo) n a z) h .0))
+      (λ e. each-at (suc lo) n a z j (both (allow lo a z) (allowEach (suc lo) n a z) h .1) (omega arith) (omega arith))
+
+  may-at : (lo n a z j : ℕ) → may lo n a z ≡ true → lo ≤ j → j ≤ lo + n → (j < 1024) × (allow j a z ≡ true)
+  unfolding may
+  may-at lo n a z j h i k = go (ltb (lo + n) 1024) refl h
+    where
+      go : (c : Bool) → ltb (lo + n) 1024 ≡ c → cond c (allowEach lo n a z) false ≡ true → (j < 1024) × (allow j a z ≡ true)
+      go true e g = (let b = ltb-true (lo + n) 1024 e in omega arith, each-at lo n a z j g i k)
+      go false e g = absurd (true≢false (sym g))
+
+  pub may-room : (lo n a z : ℕ) → may lo n a z ≡ true → lo + n < 1024
+  may-room lo n a z h = may-at lo n a z (lo + n) h (omega arith) (omega arith) .0
 
   -- what the test of one cell says
-  pub record Said (j a z : ℕ) : Type 0 where
-    pub most-said : z ≤ most j
-    pub lfe-said : j ≡ HELDEND + 6 → 7 ≤ a
-    pub user-said : user j a z ≡ true
+  record Said (j a z : ℕ) : Type 0 where
+    most-said : z ≤ most j
+    lfe-said : j ≡ HELDEND + 6 → 7 ≤ a
+    test-said : permits j a z ≡ true
 
   said : (j a z : ℕ) → 0 < j → allow j a z ≡ true → Said j a z
   unfolding allow
   said j a z h e = go (eqb j 0) refl e
     where
-      inner : (c : Bool) → eqb j (HELDEND + 6) ≡ c → ((not c || leb 7 a) && user j a z) ≡ true → z ≤ most j → Said j a z
+      inner : (c : Bool) → eqb j (HELDEND + 6) ≡ c → ((not c || leb 7 a) && permits j a z) ≡ true → z ≤ most j → Said j a z
       inner true q k i =
-          let b = both (leb 7 a) (user j a z) k in
-          record { most-said = i; lfe-said = λ _. leb-true 7 a (b .0); user-said = b .1 }
-      inner false q k i = record { most-said = i; lfe-said = λ x. absurd (eqb-false j (HELDEND + 6) q x); user-said = k }
+          let b = both (leb 7 a) (permits j a z) k in
+          record { most-said = i; lfe-said = λ _. leb-true 7 a (b .0); test-said = b .1 }
+      inner false q k i = record { most-said = i; lfe-said = λ x. absurd (eqb-false j (HELDEND + 6) q x); test-said = k }
 
-      go : (c : Bool) → eqb j 0 ≡ c → (c || (leb z (most j) && ((not (eqb j (HELDEND + 6)) || leb 7 a) && user j a z))) ≡ true → Said j a z
+      go : (c : Bool) → eqb j 0 ≡ c → (c || (leb z (most j) && ((not (eqb j (HELDEND + 6)) || leb 7 a) && permits j a z))) ≡ true → Said j a z
       go true q k = absurd (let z : j ≡ 0 = eqb-true j 0 q in omega arith)
       go false q k =
-          let b = both (leb z (most j)) ((not (eqb j (HELDEND + 6)) || leb 7 a) && user j a z) k in
+          let b = both (leb z (most j)) ((not (eqb j (HELDEND + 6)) || leb 7 a) && permits j a z) k in
           inner (eqb j (HELDEND + 6)) refl (b .1) (leb-true z (most j) (b .0))
 
   -- a put that the test allows
-  pub puts : (m : List ℕ) (k v lo n a z : ℕ) → Within m → may lo n a z ≡ true → lo ≤ k → k ≤ lo + n → a ≤ v % 65536 → v % 65536 ≤ z → Goes m (putIn m k v)
-  puts m k v lo n a z w h i j g f = by-cases (ℕ-discrete k 0) (λ e. rw e (rw (put-zero m v) (goes-refl m w))) (λ e. by-cases (decLt k 640) (inner e) (λ q. rw (put-past m k v (omega arith)) (goes-refl m w)))
+  pub puts : (m : List ℕ) (k v lo n a z : ℕ) → Within m → may lo n a z ≡ true → lo ≤ k → k ≤ lo + n → a ≤ v % 65536 → v % 65536 ≤ z → Changed m (putIn m k v)
+  puts m k v lo n a z w h i j g f =
+      by-cases (ℕ-discrete k 0) (λ e. rw e (rw (put-zero m v) (changed-none m w))) (λ e. inner e (may-at lo n a z k h i j))
     where
-      inner : ¬ (k ≡ 0) → k < 640 → Goes m (putIn m k v)
+      inner : ¬ (k ≡ 0) → (k < 1024) × (allow k a z ≡ true) → Changed m (putIn m k v)
       inner e q =
-          let d : Said k a z = said k a z (omega arith) (may-at lo n a z k h i j) in
-          let s : cellOf (putIn m k v) k ≡ v % 65536 = cell-same m k v (w .sized) (omega arith) q in
+          let d : Said k a z = said k a z (omega arith) (q .1) in
+          let u : k < 1024 = q .0 in
+          let s : cellOf (putIn m k v) k ≡ v % 65536 = cell-at m k v (w .sized) (omega arith) u in
           record {
             within = record {
               sized = put-sized m k v ∙ w .sized;
-              below = λ x. by-cases (ℕ-discrete x k)
-                  (λ y. subst (λ t. cellOf (putIn m k v) t ≤ most t) (sym y) (let r : cellOf (putIn m k v) k ≤ most k = omega (arith, d .most-said) in r))
-                  (λ y. rw (cell-other m k v x y) (w .below x));
+              below = λ x. by-cases (ℕ-discrete (x % 1024) k)
+                  (λ y. let c : cellOf (putIn m k v) x ≡ cellOf (putIn m k v) k = cell-mod (putIn m k v) x ∙ ap (cellOf (putIn m k v)) y in
+                  let r = most-mod x k y in
+                  omega (arith, d .most-said))
+                  (λ y. rw (cell-other m k v x (λ t. y (omega arith))) (w .below x));
               lfe = by-cases (ℕ-discrete (HELDEND + 6) k)
                   (λ y. let r : 7 ≤ a = d .lfe-said (sym y) in
                   let t : z ≤ most (HELDEND + 6) = subst (λ u. z ≤ most u) (sym y) (d .most-said) in
                   inr (subst (λ u. cellOf (putIn m k v) u ≡ 7) (sym y) (let b = lfe-most in omega arith)))
-                  (λ y. subst (λ u. (u ≡ 0) ⊎ (u ≡ 7)) (sym (cell-other m k v (HELDEND + 6) y)) (w .lfe));
+                  (λ y. subst (λ u. (u ≡ 0) ⊎ (u ≡ 7)) (sym (cell-beside m k v (HELDEND + 6) (omega arith) u y)) (w .lfe));
             };
-            each = λ x. by-cases (ℕ-discrete x k)
-                (λ y. inr (subst (λ t. Allowed t (cellOf (putIn m k v) t)) (sym y) (record { least = a; greatest = z; okay = d .user-said; above = omega arith; below = omega arith })))
-                (λ y. inl (cell-other m k v x y));
+            each = λ x b. by-cases (ℕ-discrete x k)
+                (λ y. inr (subst (λ t. Permitted t (cellOf (putIn m k v) t)) (sym y) (record { least = a; greatest = z; okay = d .test-said; above = omega arith; below = omega arith })))
+                (λ y. inl (cell-beside m k v x b u y));
           }
 
--- what is known of some cells besides: at most so much
+-- a test that permits no less
+pub changed-more : (u v : Test) → ((j a z : ℕ) → u j a z ≡ true → v j a z ≡ true) → (x y : List ℕ) → Changed u x y → Changed v x y
+changed-more u v f x y g = record { within = g .within; each = λ j i. go j (g .each j i) }
+  where
+    go : (j : ℕ) → (cellOf y j ≡ cellOf x j) ⊎ Permitted u j (cellOf y j) → (cellOf y j ≡ cellOf x j) ⊎ Permitted v j (cellOf y j)
+    go j (inl e) = inl e
+    go j (inr a) = inr (record { least = a .least; greatest = a .greatest; okay = f j (a .least) (a .greatest) (a .okay); above = a .above; below = a .below })
+
+-- what is known of some cells besides their bounds: the sum of two is at most so much. Cell 0 holds 0
 abbrev pub Known : Type 0
-Known = List (ℕ × ℕ)
+Known = List (ℕ × ℕ × ℕ)
 
 abbrev pub Knows : Known → List ℕ → Type 0
 Knows [] m = Unit {0}
-Knows (q ∷ ks) m = (cellOf m (q .0) ≤ q .1) × Knows ks m
+Knows (q ∷ ks) m = (cellOf m (q .0) + cellOf m (q .1) ≤ q .2) × Knows ks m
 
 unfoldable pub upTo : Known → ℕ → ℕ
 upTo [] k = most k
-upTo (q ∷ ks) k = cond (eqb (q .0) k) (min (q .1) (most k)) (upTo ks k)
-
--- all but what is known of the n + 1 cells from the cell lo on
-unfoldable pub forget : ℕ → ℕ → Known → Known
-forget lo n [] = []
-forget lo n (q ∷ ks) = cond (leb lo (q .0) && leb (q .0) (lo + n)) (forget lo n ks) (q ∷ forget lo n ks)
+upTo (q ∷ ks) k = cond (eqb (q .0) k) (min (q .2) (upTo ks k)) (upTo ks k)
 
 pub up-to : (ks : Known) (m : List ℕ) (k : ℕ) → Within m → Knows ks m → cellOf m k ≤ upTo ks k
 unfolding upTo
 up-to [] m k w h = w .below k
 up-to (q ∷ ks) m k w h = go (eqb (q .0) k) refl (up-to ks m k w (h .1))
   where
-    go : (c : Bool) → eqb (q .0) k ≡ c → cellOf m k ≤ upTo ks k → cellOf m k ≤ cond c (min (q .1) (most k)) (upTo ks k)
+    go : (c : Bool) → eqb (q .0) k ≡ c → cellOf m k ≤ upTo ks k → cellOf m k ≤ cond c (min (q .2) (upTo ks k)) (upTo ks k)
     go true e r =
-        let i : cellOf m k ≤ q .1 = subst (λ x. cellOf m x ≤ q .1) (eqb-true (q .0) k e) (h .0) in
-        let j = w .below k in
+        let i : cellOf m k + cellOf m (q .1) ≤ q .2 = subst (λ x. cellOf m x + cellOf m (q .1) ≤ q .2) (eqb-true (q .0) k e) (h .0) in
         omega arith
     go false e r = r
 
-pub forgets : (ks : Known) (m : List ℕ) (k v lo n : ℕ) → lo ≤ k → k ≤ lo + n → Knows ks m → Knows (forget lo n ks) (putIn m k v)
-unfolding forget
-forgets [] m k v lo n i j h = tt
-forgets (q ∷ ks) m k v lo n i j h = go (leb lo (q .0)) (leb (q .0) (lo + n)) refl refl (forgets ks m k v lo n i j (h .1))
-  where
-    stays : ¬ (q .0 ≡ k) → cellOf (putIn m k v) (q .0) ≤ q .1
-    stays e = rw (cell-other m k v (q .0) e) (h .0)
+-- a sum of two cells, that is d at most
+unfoldable pub sumTo : Known → ℕ → ℕ → ℕ → ℕ
+sumTo [] j k d = d
+sumTo (q ∷ ks) j k d = cond (eqb (q .0) j && eqb (q .1) k) (min (q .2) (sumTo ks j k d)) (sumTo ks j k d)
 
-    go : (a b : Bool) → leb lo (q .0) ≡ a → leb (q .0) (lo + n) ≡ b → Knows (forget lo n ks) (putIn m k v) → Knows (cond (a && b) (forget lo n ks) (q ∷ forget lo n ks)) (putIn m k v)
-    go true true e f r = r
-    go true false e f r = (stays (λ x. let y = leb-false (q .0) (lo + n) f in omega arith), r)
-    go false b e f r = (stays (λ x. let y = leb-false lo (q .0) e in omega arith), r)
+pub sum-to : (ks : Known) (m : List ℕ) (j k d : ℕ) → Knows ks m → cellOf m j + cellOf m k ≤ d → cellOf m j + cellOf m k ≤ sumTo ks j k d
+unfolding sumTo
+sum-to [] m j k d h i = i
+sum-to (q ∷ ks) m j k d h i = go (eqb (q .0) j) (eqb (q .1) k) refl refl (sum-to ks m j k d (h .1) i)
+  where
+    go : (a b : Bool) → eqb (q .0) j ≡ a → eqb (q .1) k ≡ b → cellOf m j + cellOf m k ≤ sumTo ks j k d
+        → cellOf m j + cellOf m k ≤ cond (a && b) (min (q .2) (sumTo ks j k d)) (sumTo ks j k d)
+    go true true e f r =
+        let x : cellOf m (q .0) ≡ cellOf m j = ap (cellOf m) (eqb-true (q .0) j e) in
+        let y : cellOf m (q .1) ≡ cellOf m k = ap (cellOf m) (eqb-true (q .1) k f) in
+        let t = h .0 in
+        omega arith
+    go true false e f r = r
+    go false b e f r = r
+
+-- a cell among the n + 1 from lo on
+abbrev among : ℕ → ℕ → ℕ → Bool
+among lo n k = leb lo (k % 1024) && leb (k % 1024) (lo + n)
+
+-- all but what is known of the n + 1 cells from the cell lo on
+unfoldable pub forget : ℕ → ℕ → Known → Known
+forget lo n [] = []
+forget lo n (q ∷ ks) = cond (among lo n (q .0) || among lo n (q .1)) (forget lo n ks) (q ∷ forget lo n ks)
+
+pub forgets : (ks : Known) (m : List ℕ) (k v lo n : ℕ) → lo ≤ k → k ≤ lo + n → lo + n < 1024 → Knows ks m → Knows (forget lo n ks) (putIn m k v)
+unfolding forget
+forgets [] m k v lo n i j u h = tt
+forgets (q ∷ ks) m k v lo n i j u h = go (among lo n (q .0)) (among lo n (q .1)) refl refl (forgets ks m k v lo n i j u (h .1))
+  where
+    apart : (x : ℕ) (c d : Bool) → leb lo (x % 1024) ≡ c → leb (x % 1024) (lo + n) ≡ d → (c && d) ≡ false → ¬ (x % 1024 ≡ k)
+    apart x true true e f g y = true≢false g
+    apart x true false e f g y = let z = leb-false (x % 1024) (lo + n) f in omega arith
+    apart x false d e f g y = let z = leb-false lo (x % 1024) e in omega arith
+
+    stays : (x : ℕ) → among lo n x ≡ false → cellOf (putIn m k v) x ≡ cellOf m x
+    stays x e = cell-other m k v x (λ y. apart x (leb lo (x % 1024)) (leb (x % 1024) (lo + n)) refl refl e (omega arith))
+
+    go : (a b : Bool) → among lo n (q .0) ≡ a → among lo n (q .1) ≡ b → Knows (forget lo n ks) (putIn m k v) → Knows (cond (a || b) (forget lo n ks) (q ∷ forget lo n ks)) (putIn m k v)
+    go true b e f r = r
+    go false true e f r = r
+    go false false e f r = (let x = stays (q .0) e in let y = stays (q .1) f in let z = h .0 in omega arith, r)
 
 -- an address: how many cells past its base it may come to; the value that it may have there
 unfoldable pub spread : Addr → Known → ℕ
@@ -200,25 +268,14 @@ pub spreads : (a : Addr) (ks : Known) (m : List ℕ) → Within m → Knows ks m
 unfolding spread
 spreads a ks m w h = let x = up-to ks m (a .by) w h in let y = up-to ks m (a .row) w h in omega arith
 
--- no bound is above what a cell holds
-allWords : List Bound → Bool
-allWords [] = true
-allWords (r ∷ rs) = leb (r .2) 65535 && allWords rs
+-- no counter picks it
+pub place-base : (a : Addr) (ks : Known) (m : List ℕ) → Within m → Knows ks m → eqb (spread a ks) 0 ≡ true → placeOf a m ≡ a .base
+place-base a ks m w h e =
+    let z : spread a ks ≡ 0 = eqb-true (spread a ks) 0 e in
+    let s = spreads a ks m w h in
+    omega arith
 
-mostIn-word : (rs : List Bound) (k : ℕ) → allWords rs ≡ true → mostIn rs k ≤ 65535
-unfolding mostIn allWords
-mostIn-word [] k h = omega arith
-mostIn-word (r ∷ rs) k h = go (leb (r .0) k && leb k (r .1)) (mostIn-word rs k (both (leb (r .2) 65535) (allWords rs) h .1))
-  where
-    go : (c : Bool) → mostIn rs k ≤ 65535 → cond c (r .2) (mostIn rs k) ≤ 65535
-    go true i = leb-true (r .2) 65535 (both (leb (r .2) 65535) (allWords rs) h .0)
-    go false i = i
-
-pub most-word : (k : ℕ) → most k ≤ 65535
-unfolding most bounds allWords
-most-word k = mostIn-word bounds k refl
-
-most-over : (lo n k : ℕ) → lo ≤ k → k ≤ lo + n → most k ≤ mostOver lo n
+pub most-over : (lo n k : ℕ) → lo ≤ k → k ≤ lo + n → most k ≤ mostOver lo n
 unfolding mostOver
 most-over lo zero k i j = let e : lo ≡ k = omega arith in subst (λ x. most x ≤ most lo) e (omega arith)
 most-over lo (suc n) k i j =
@@ -231,60 +288,64 @@ unfolding valueAt
 value-at a ks m w h = go (eqb (spread a ks) 0) (ltb (spread a ks) 64) refl
   where
     go : (c d : Bool) → eqb (spread a ks) 0 ≡ c → heldOf a m ≤ cond c (upTo ks (a .base)) (cond d (mostOver (a .base) (spread a ks)) 65535)
-    go true d e =
-        let z : spread a ks ≡ 0 = eqb-true (spread a ks) 0 e in
-        let s = spreads a ks m w h in
-        let x : a .base ≡ placeOf a m = omega arith in
-        subst (λ k. cellOf m k ≤ upTo ks (a .base)) x (up-to ks m (a .base) w h)
+    go true d e = rw (place-base a ks m w h e) (up-to ks m (a .base) w h)
     go false true e =
         let s = spreads a ks m w h in
         omega (arith, w .below (placeOf a m), most-over (a .base) (spread a ks) (placeOf a m) (s .0) (s .1))
     go false false e = omega (arith, w .below (placeOf a m), most-word (placeOf a m))
 
--- the least and the most that a value comes to, at the address of its cell
+-- the least and the most that a value comes to
 unfoldable pub leastOf : Value → ℕ
 leastOf Here = 0
 leastOf (Let x y a) = x
 leastOf (Less x y a) = 0
-leastOf (Plus a) = 0
-leastOf (Minus a) = 0
+leastOf (Plus a k) = 0
+leastOf (Minus a k) = 0
 
-unfoldable pub greatestOf : Value → Addr → Known → ℕ
-greatestOf Here k ks = 65536
-greatestOf (Let x y a) k ks = x + y * valueAt a ks
-greatestOf (Less x y a) k ks = y * valueAt a ks - x
-greatestOf (Plus a) k ks = valueAt k ks + valueAt a ks
-greatestOf (Minus a) k ks = valueAt k ks
+unfoldable pub greatestOf : Value → Known → ℕ
+greatestOf Here ks = 65536
+greatestOf (Let x y a) ks = x + y * valueAt a ks
+greatestOf (Less x y a) ks = y * valueAt a ks - x
+greatestOf (Plus a k) ks = cond (eqb (spread a ks) 0) (sumTo ks (a .base) k (upTo ks (a .base) + upTo ks k)) (valueAt a ks + upTo ks k)
+greatestOf (Minus a k) ks = valueAt a ks
 
 -- as it is held: one that does not fit may be anything
-unfoldable pub heldLeast : Value → Addr → Known → ℕ
-heldLeast v k ks = cond (leb (greatestOf v k ks) 65535) (leastOf v) 0
+unfoldable pub heldLeast : Value → Known → ℕ
+heldLeast v ks = cond (leb (greatestOf v ks) 65535) (leastOf v) 0
 
-unfoldable pub heldMost : Value → Addr → Known → ℕ
-heldMost v k ks = min (greatestOf v k ks) 65535
+unfoldable pub heldMost : Value → Known → ℕ
+heldMost v ks = min (greatestOf v ks) 65535
+
+sums : (a : Addr) (k : ℕ) (ks : Known) (m : List ℕ) → Within m → Knows ks m
+    → heldOf a m + cellOf m k ≤ cond (eqb (spread a ks) 0) (sumTo ks (a .base) k (upTo ks (a .base) + upTo ks k)) (valueAt a ks + upTo ks k)
+sums a k ks m w h = go (eqb (spread a ks) 0) refl
+  where
+    go : (c : Bool) → eqb (spread a ks) 0 ≡ c → heldOf a m + cellOf m k ≤ cond c (sumTo ks (a .base) k (upTo ks (a .base) + upTo ks k)) (valueAt a ks + upTo ks k)
+    go true e =
+        rw (place-base a ks m w h e)
+        (sum-to ks m (a .base) k (upTo ks (a .base) + upTo ks k) h (let x = up-to ks m (a .base) w h in let y = up-to ks m k w h in omega arith))
+    go false e = let x = value-at a ks m w h in let y = up-to ks m k w h in omega arith
 
 -- but for the present place, a value lies between them
-ranges : (v : Value) (k : Addr) (ks : Known) (m : List ℕ) (p : ℕ) → Within m → Knows ks m → greatestOf v k ks ≤ 65535
-    → (leastOf v ≤ amountOf v (placeOf k m) p m) × (amountOf v (placeOf k m) p m ≤ greatestOf v k ks)
+ranges : (v : Value) (ks : Known) (m : List ℕ) (p : ℕ) → Within m → Knows ks m → greatestOf v ks ≤ 65535 → (leastOf v ≤ amountOf v p m) × (amountOf v p m ≤ greatestOf v ks)
 unfolding leastOf greatestOf
-ranges Here k ks m p w h i = absurd (let z : ⊥ = omega arith in z)
-ranges (Let x y a) k ks m p w h i = let r = mul-le-mul-left y (value-at a ks m w h) in (omega arith, omega arith)
-ranges (Less x y a) k ks m p w h i = let r = mul-le-mul-left y (value-at a ks m w h) in (omega arith, omega arith)
-ranges (Plus a) k ks m p w h i = let r = value-at a ks m w h in let t = value-at k ks m w h in (omega arith, omega arith)
-ranges (Minus a) k ks m p w h i = let t = value-at k ks m w h in (omega arith, omega arith)
+ranges Here ks m p w h i = absurd (let z : ⊥ = omega arith in z)
+ranges (Let x y a) ks m p w h i = let r = mul-le-mul-left y (value-at a ks m w h) in (omega arith, omega arith)
+ranges (Less x y a) ks m p w h i = let r = mul-le-mul-left y (value-at a ks m w h) in (omega arith, omega arith)
+ranges (Plus a k) ks m p w h i = (omega arith, sums a k ks m w h)
+ranges (Minus a k) ks m p w h i = let t = value-at a ks m w h in (omega arith, omega arith)
 
-pub held-range : (v : Value) (k : Addr) (ks : Known) (m : List ℕ) (p : ℕ) → Within m → Knows ks m
-    → (heldLeast v k ks ≤ amountOf v (placeOf k m) p m % 65536) × (amountOf v (placeOf k m) p m % 65536 ≤ heldMost v k ks)
+pub held-range : (v : Value) (ks : Known) (m : List ℕ) (p : ℕ) → Within m → Knows ks m → (heldLeast v ks ≤ amountOf v p m % 65536) × (amountOf v p m % 65536 ≤ heldMost v ks)
 unfolding heldLeast heldMost
-held-range v k ks m p w h = go (leb (greatestOf v k ks) 65535) refl
+held-range v ks m p w h = go (leb (greatestOf v ks) 65535) refl
   where
     x : ℕ
-    x = amountOf v (placeOf k m) p m
+    x = amountOf v p m
 
-    go : (c : Bool) → leb (greatestOf v k ks) 65535 ≡ c → (cond c (leastOf v) 0 ≤ x % 65536) × (x % 65536 ≤ min (greatestOf v k ks) 65535)
+    go : (c : Bool) → leb (greatestOf v ks) 65535 ≡ c → (cond c (leastOf v) 0 ≤ x % 65536) × (x % 65536 ≤ min (greatestOf v ks) 65535)
     go true e =
-        let i = leb-true (greatestOf v k ks) 65535 e in
-        let r = ranges v k ks m p w h i in
+        let i = leb-true (greatestOf v ks) 65535 e in
+        let r = ranges v ks m p w h i in
         let z : x % 65536 ≡ x = omega arith in
         (omega arith, omega arith)
-    go false e = let i = leb-false (greatestOf v k ks) 65535 e in (omega arith, omega arith)
+    go false e = let i = leb-false (greatestOf v ks) 65535 e in (omega arith, omega arith)

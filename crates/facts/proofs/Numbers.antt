@@ -8,35 +8,37 @@ use lib.Dec.{leb, ltb, eqb}
 use lib.ListN.{getD}
 use borrow.Author.Tests.{leb-true}
 use Rattle.bits.specs.Bits.{bitsAt}
-use Rattle.reading.specs.Tree.{Skim, stop, fail, at, take, _>>-_, Tree, done, refuse, here, read, span as spanned, scan as scanned, _>>=_}
+use Rattle.reading.specs.Tree.{Part, Skim, stop, fail, at, take, _>>-_, Tree, done, refuse, ahead, here, read, span as spanned, scan, _>>=_}
 use Rattle.reading.specs.Run.{Result, accepted, refused, Outcome, andThen, after, skim, run}
-use Rattle.reading.specs.Frame.{TailNames, auxdataeAt, ahead, ending, tail}
+use Rattle.reading.specs.Frame.{TailNames, ending, tail}
 use Rattle.reading.proofs.Laws.{test}
 use Rattle.tables.specs.Small.{gaqBits}
-use Rattle.blocks.specs.Exponents.{nextOf, onTo, decodeOf}
-use Rattle.blocks.specs.Mantissas.{conventionalOf}
-use Rattle.blocks.specs.Hybrid.{activeIn, singlesOf, triplesOf, gainsOf, smallOf, largeOf, premantissaOf, premantissasOf, binOf, binsOf, ahtOf}
-use Rattle.blocks.specs.Plan.{Along, visitOf, visitIf, slotsOf, mantissasOf, readOf}
-use Rattle.blocks.specs.State.{Allocated, allocated, bySent, deltaCodeOf, allocatedOf}
-use Rattle.blocks.specs.declared.exponents.Group.{Group}
-use Rattle.blocks.specs.declared.exponents.Group.the-variants.{Refused, Moved}
-use Rattle.blocks.specs.declared.exponents.Next.{Next}
-use Rattle.blocks.specs.declared.exponents.Next.the-variants.{Outside, To}
-use Rattle.blocks.specs.declared.mantissas.Groups.{Groups}
-use Rattle.blocks.specs.declared.plan.Shape.{Shape}
-use Rattle.blocks.specs.declared.state.Codes.{Codes}
-use Rattle.blocks.specs.declared.state.DeltaCode.{DeltaCode}
-use Rattle.blocks.specs.declared.state.DeltaCode.the-variants.{Refused as Denied, Keep, New, Clear}
-use Rattle.blocks.specs.declared.state.Parameters.{Parameters}
-use Rattle.blocks.specs.declared.state.Parameters.the-variants.{NeverSent, Sent}
-use Rattle.walk.specs.Cells.{State, kept, sumOf, Acted}
-use Rattle.walk.specs.Rows.{holdsOf}
-use Rattle.walk.specs.Acts.{spreadBy, expGroup, actOf}
-use Rattle.walk.specs.Allocating.{deltaBy, deltaCode, allocateIn, allocStateOf}
-use Rattle.walk.specs.Scans.{mantissas}
-use Rattle.walk.specs.Syntax.{Item, Block, element, span, scan, when, reject, each, put, act, end, _⨾_, turns, item, meaning}
+use Rattle.slots.specs.Slots.{readOf}
+use Rattle.slots.specs.declared.Shape.{Shape}
+use Rattle.exponents.specs.Exponents.{nextOf, onTo, decodeOf}
+use Rattle.exponents.specs.Set.{onGroup, groupsFrom, setOf}
+use Rattle.exponents.specs.declared.Group.{Group}
+use Rattle.exponents.specs.declared.Group.the-variants.{Refused, Moved}
+use Rattle.exponents.specs.declared.Next.{Next}
+use Rattle.exponents.specs.declared.Next.the-variants.{Outside, To}
+use Rattle.mantissas.specs.Mantissas.{conventionalOf}
+use Rattle.mantissas.specs.declared.Groups.{Groups}
+use Rattle.hybrid.specs.Hybrid.{activeIn, singlesOf, triplesOf, gainsOf, smallOf, largeOf, premantissaOf, premantissasOf, binOf, binsOf, ahtOf}
+use Rattle.plan.specs.Plan.{Along, visitOf, visitIf, slotsOf, mantissasOf}
+use Rattle.allocation.specs.State.{Allocated, allocated, bySent, allocatedOf}
+use Rattle.allocation.specs.declared.Codes.{Codes}
+use Rattle.allocation.specs.declared.Parameters.{Parameters}
+use Rattle.allocation.specs.declared.Parameters.the-variants.{NeverSent, Sent}
+use Rattle.cells.specs.Cells.{State, cellOf, stored, sumOf}
+use Rattle.derivations.specs.Acted.{Acted, acted}
+use Rattle.derivations.specs.Allocating.{allocateIn, allocStateOf}
+use Rattle.derivations.specs.Blocks.{unknownHere, endmantsBy}
+use Rattle.derivations.specs.Derivations.{Numblks, Nfchans, Fresh, Ncplblks, CplStrategies, ChStrategies, Regions, Blkstrtinfo, SpxRange, Nspxbnds, CplRange, Ncplbnd, Nrematbd, Endmants, Defaults, Allocation, AhtRead, puts, endmantsIn, derived}
+use Rattle.derivations.specs.Sets.{exponentsOf}
+use Rattle.derivations.specs.Shapes.{mantissasIn}
+use Rattle.rows.specs.Syntax.{Item, Block, element, elements, span, mantissas, exponents, when, each, reject, reject-at, put, fill, derive, end, _⨾_, holdsOf, turns, one, item, meaning}
 use Rattle.facts.specs.Numbers.{Numbered, Fails, Refuses, rejectsIn, rejects}
-use Rattle.facts.proofs.Counts.{both}
+use Rattle.facts.proofs.Bounds.{both}
 
 -- what a run refuses with
 numbered-skim : {A : Type 0} (s : Skim A) → Fails s → (b : List ℕ) (p l : ℕ) → Numbered (skim s b p l .result)
@@ -59,11 +61,12 @@ pub numbered-run : {A : Type 0} (t : Tree A) → Refuses t → (b : List ℕ) (p
 unfolding run
 numbered-run (done a) h b p l = tt
 numbered-run (refuse n) h b p l = h
+numbered-run (ahead n w) h b p l = h
 numbered-run (here k) h b p l = numbered-run (k p) (h p) b p l
 numbered-run (read q w k) h b p l =
     test (λ o. Numbered (o .result)) (leb (p + w) l) (λ _. numbered-run (k (bitsAt b p w)) (h (bitsAt b p w)) b (p + w) l) (λ _. omega arith)
 numbered-run (spanned q w t) h b p l = test (λ o. Numbered (o .result)) (leb (p + w) l) (λ _. numbered-run t h b (p + w) l) (λ _. omega arith)
-numbered-run (scanned q s k) h b p l = numbered-after (skim s b p l) _ (numbered-skim s (h .0) b p l) (λ v e. numbered-run (k v) (h .1 v) b e l)
+numbered-run (scan q s k) h b p l = numbered-after (skim s b p l) _ (numbered-skim s (h .0) b p l) (λ v e. numbered-run (k v) (h .1 v) b e l)
 
 -- one after another
 fails-bind : {A B : Type 0} (s : Skim A) (f : A → Skim B) → Fails s → ((a : A) → Fails (f a)) → Fails (s >>- f)
@@ -81,10 +84,11 @@ refuses-bind : {A B : Type 0} (t : Tree A) (f : A → Tree B) → Refuses t → 
 unfolding _>>=_
 refuses-bind (done a) f h k = k a
 refuses-bind (refuse n) f h k = h
+refuses-bind (ahead n w) f h k = h
 refuses-bind (here j) f h k = λ p. refuses-bind (j p) f (h p) k
 refuses-bind (read q w j) f h k = λ v. refuses-bind (j v) f (h v) k
 refuses-bind (spanned q w t) f h k = refuses-bind t f h k
-refuses-bind (scanned q s j) f h k = (h .0, λ v. refuses-bind (j v) f (h .1 v) k)
+refuses-bind (scan q s j) f h k = (h .0, λ v. refuses-bind (j v) f (h .1 v) k)
 
 refuses-if : {A : Type 0} (c : Bool) (t u : Tree A) → Refuses t → Refuses u → Refuses (cond c t u)
 refuses-if true t u h k = h
@@ -158,11 +162,11 @@ module _ (bins : List ℕ) (shape : Shape) where
       fails-bind (visitIf bins shape true ch a) _ (fails-visit-if true ch a)
       (λ a. fails-bind (visitIf bins shape _ 5 a) _ (fails-visit-if _ 5 a) (λ a. fails-slots (suc ch) n _ a))
 
-fails-mantissas : (st : State) → Fails (mantissas st)
-unfolding mantissas mantissasOf
+fails-mantissas : (st : State) → Fails (mantissasIn st)
+unfolding mantissasIn mantissasOf
 fails-mantissas st = fails-slots (st .bins) _ 0 _ false _
 
--- the derivations
+-- a set of exponents
 abbrev Group-numbered : Group → Type 0
 Group-numbered (Refused n) = n ≤ 32
 Group-numbered (Moved a b c) = Unit {0}
@@ -181,40 +185,20 @@ numbered-decode prev grp =
     group-if (ltb 124 grp) _ _ (let z : 11 ≤ 32 = omega arith in z)
     (numbered-next (nextOf prev (grp / 25)) _ (λ a. numbered-next (nextOf a (grp % 25 / 5)) _ (λ b. numbered-next (nextOf b (grp % 5)) _ (λ c. tt))))
 
-numbered-group : (st : State) → expGroup st .number ≤ 32
-unfolding expGroup
-numbered-group st = go (decodeOf _ _) (numbered-decode _ _)
-  where
-    go : (g : Group) → Group-numbered g → spreadBy g st .number ≤ 32
-    go (Refused n) h = h
-    go (Moved a b c) h = omega arith
+refuses-group : {A : Type 0} (g : Group) (f : ℕ → ℕ → ℕ → Tree A) → Group-numbered g → ((a b c : ℕ) → Refuses (f a b c)) → Refuses (onGroup g f)
+refuses-group (Refused n) f h k = h
+refuses-group (Moved a b c) f h k = k a b c
 
-abbrev Delta-numbered : DeltaCode → Type 0
-Delta-numbered (Denied n) = n ≤ 32
-Delta-numbered Keep = Unit {0}
-Delta-numbered New = Unit {0}
-Delta-numbered Clear = Unit {0}
+refuses-groups : (q : Part) (slot size n bin prev : ℕ) (bins : List ℕ) → Refuses (groupsFrom q slot size n bin prev bins)
+unfolding groupsFrom
+refuses-groups q slot size zero bin prev bins = tt
+refuses-groups q slot size (suc n) bin prev bins = λ grp. refuses-group (decodeOf prev grp) _ (numbered-decode prev grp) (λ a b c. refuses-groups q slot size n _ c _)
 
-delta-if : (c : Bool) (g h : DeltaCode) → Delta-numbered g → Delta-numbered h → Delta-numbered (cond c g h)
-delta-if true g h x y = x
-delta-if false g h x y = y
+refuses-exponents : (q : Part) (slot : ℕ) (st : State) → Refuses (exponentsOf q slot st)
+unfolding exponentsOf setOf
+refuses-exponents q slot st = refuses-bind (groupsFrom _ _ _ _ _ _ _) _ (refuses-groups _ _ _ _ _ _ _) (λ b. tt)
 
-numbered-code : (code : ℕ) (block0 : Bool) → Delta-numbered (deltaCodeOf code block0)
-unfolding deltaCodeOf
-numbered-code code block0 =
-    delta-if (eqb code 0) _ _ (delta-if block0 _ _ (let z : 28 ≤ 32 = omega arith in z) tt)
-    (delta-if (eqb code 1) _ _ tt (delta-if (eqb code 2) _ _ tt (let z : 12 ≤ 32 = omega arith in z)))
-
-numbered-delta : (st : State) → deltaCode st .number ≤ 32
-unfolding deltaCode
-numbered-delta st = go (deltaCodeOf _ _) (numbered-code _ _)
-  where
-    go : (d : DeltaCode) → Delta-numbered d → deltaBy d st .number ≤ 32
-    go (Denied n) h = h
-    go Keep h = omega arith
-    go New h = omega arith
-    go Clear h = omega arith
-
+-- the derivations
 numbered-allocate : (st : State) → allocateIn st .number ≤ 32
 unfolding allocateIn allocatedOf
 numbered-allocate st = go (allocStateOf (st .cells) .parameters) _ (λ c. let z : 0 ≤ 32 = omega arith in z)
@@ -223,16 +207,34 @@ numbered-allocate st = go (allocStateOf (st .cells) .parameters) _ (λ c. let z 
     go NeverSent k h = omega arith
     go (Sent c) k h = h c
 
-pub numbered-act : (k x : ℕ) (st : State) → actOf k x st .number ≤ 32
-unfolding actOf
-numbered-act k x st =
-    pick (eqb k 1) _ _ none
-    (pick (eqb k 2) _ _ none
-    (pick (eqb k 3) _ _ none
-    (pick (eqb k 4) _ _ none
-    (pick (eqb k 5) _ _ (numbered-group st)
-    (pick (eqb k 6) _ _ (numbered-delta st)
-    (pick (eqb k 7) _ _ (numbered-allocate st) none))))))
+numbered-endmants : (st : State) → endmantsIn st .number ≤ 32
+unfolding endmantsIn
+numbered-endmants st = go (unknownHere (st .cells))
+  where
+    go : (c : Bool) → cond c (acted 23 st) (puts endmantsBy st) .number ≤ 32
+    go true = omega arith
+    go false = omega arith
+
+numbered-derived : (k : ℕ) (st : State) → derived k st .number ≤ 32
+unfolding derived
+numbered-derived k st =
+    pick (eqb k Numblks) _ _ none
+    (pick (eqb k Nfchans) _ _ none
+    (pick (eqb k Fresh) _ _ none
+    (pick (eqb k Ncplblks) _ _ none
+    (pick (eqb k CplStrategies) _ _ none
+    (pick (eqb k ChStrategies) _ _ none
+    (pick (eqb k Regions) _ _ none
+    (pick (eqb k Blkstrtinfo) _ _ none
+    (pick (eqb k SpxRange) _ _ none
+    (pick (eqb k Nspxbnds) _ _ none
+    (pick (eqb k CplRange) _ _ none
+    (pick (eqb k Ncplbnd) _ _ none
+    (pick (eqb k Nrematbd) _ _ none
+    (pick (eqb k Endmants) _ _ (numbered-endmants st)
+    (pick (eqb k Defaults) _ _ none
+    (pick (eqb k Allocation) _ _ (numbered-allocate st)
+    (pick (eqb k AhtRead) _ _ none none))))))))))))))))
   where
     pick : (c : Bool) (a b : Acted) → a .number ≤ 32 → b .number ≤ 32 → cond c a b .number ≤ 32
     pick true a b h k = h
@@ -245,20 +247,24 @@ numbered-act k x st =
 refuses-turns : (n i k : ℕ) (f : State → Tree State) (st : State) → ((st : State) → Refuses (f st)) → Refuses (turns n i k f st)
 unfolding turns
 refuses-turns zero i k f st h = tt
-refuses-turns (suc n) i k f st h = refuses-bind (f (kept st k i)) (turns n (suc i) k f) (h (kept st k i)) (λ a. refuses-turns n (suc i) k f a h)
+refuses-turns (suc n) i k f st h = refuses-bind (f (stored st k i)) (turns n (suc i) k f) (h (stored st k i)) (λ a. refuses-turns n (suc i) k f a h)
 
 mutual
   unfolding item rejects
 
   refuses-item : (i : Item) → rejectsIn i ≡ true → (st : State) → Refuses (item i st)
   refuses-item (element name i w a) h st = λ v. tt
-  refuses-item (span name a) h st = tt
-  refuses-item (scan name a) h st = (fails-mantissas st, λ v. tt)
+  refuses-item (elements name i w a k f n) h st = refuses-turns _ f k (one name i w a) st (λ y v. tt)
+  refuses-item (span name k) h st = tt
+  refuses-item (mantissas name a) h st = (fails-mantissas st, λ v. tt)
+  refuses-item (exponents s name i) h st = refuses-exponents _ _ st
   refuses-item (when c x) h st = refuses-if (holdsOf c (st .cells)) (meaning x st) (done st) (refuses-block x h st) tt
-  refuses-item (reject c n) h st = refuses-if (holdsOf c (st .cells)) (refuse n) (done st) (leb-true n 32 h) tt
   refuses-item (each k i n x) h st = refuses-turns _ (sumOf i (st .cells)) k (λ y. meaning x y) st (λ y. refuses-block x h y)
+  refuses-item (reject c n) h st = refuses-if (holdsOf c (st .cells)) (refuse n) (done st) (leb-true n 32 h) tt
+  refuses-item (reject-at c n k) h st = λ p. refuses-if (holdsOf c (st .cells)) (ahead n (cellOf (st .cells) k - p)) (done st) (leb-true n 32 h) tt
   refuses-item (put a v) h st = λ p. tt
-  refuses-item (act k x) h st = refuses-if (eqb (actOf k x st .number) 0) (done (actOf k x st .st)) (refuse (actOf k x st .number)) tt (numbered-act k x st)
+  refuses-item (fill k n x y a) h st = tt
+  refuses-item (derive k) h st = refuses-if (eqb (derived k st .number) 0) (done (derived k st .st)) (refuse (derived k st .number)) tt (numbered-derived k st)
 
   pub refuses-block : (x : Block) → rejects x ≡ true → (st : State) → Refuses (meaning x st)
   refuses-block end h st = tt
@@ -272,17 +278,13 @@ module _ (A : Type 0) (N : TailNames) where
   unfolding ending
   refuses-ending a = λ _ _ _. tt
 
-  refuses-ahead : (w n : ℕ) → n ≤ 32 → Refuses {A = A} (ahead w n)
-  unfolding ahead
-  refuses-ahead w n h = (λ _. h, λ _. h)
-
   pub refuses-tail : (v l : ℕ) (a : A) → Refuses (tail N v l a)
   unfolding tail
   refuses-tail v l a =
       λ p. refuses-if (leb (p + 18) l) _ _
       (refuses-if (eqb v 1) _ _
       (refuses-if (leb (p + 32) l) _ _
-      (λ n. refuses-if (leb n (l - 32 - p)) (ending N a) (ahead 1 32) (refuses-ending a) (refuses-ahead 1 32 (omega arith)))
-      (refuses-ahead (auxdataeAt l - p + 1) 31 (omega arith)))
+      (λ n. refuses-if (leb n (l - 32 - p)) (ending N a) (ahead 32 1) (refuses-ending a) (let z : 32 ≤ 32 = omega arith in z))
+      (let z : 31 ≤ 32 = omega arith in z))
       (refuses-ending a))
       (let z : 30 ≤ 32 = omega arith in z)

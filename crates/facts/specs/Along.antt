@@ -6,9 +6,8 @@ use mathlib.Core.Logic.{_⊎_}
 use Prim.Native.Nat.{ℕ, zero, suc, _-_}
 use Rattle.reading.specs.Tree.{Tree}
 use Rattle.reading.specs.Run.{Entry, accepted, run}
-use Rattle.walk.specs.Cells.{State, kept, sumOf}
-use Rattle.walk.specs.Rows.{holdsOf, countOf}
-use Rattle.walk.specs.Syntax.{Item, Block, element, span, scan, when, reject, each, put, act, end, _⨾_, item, meaning}
+use Rattle.cells.specs.Cells.{State, stored, sumOf}
+use Rattle.rows.specs.Syntax.{Item, Block, element, elements, span, mantissas, exponents, when, each, reject, reject-at, put, fill, derive, end, _⨾_, holdsOf, countOf, item, meaning}
 
 -- a record of this name is among the records
 abbrev pub Has : ℕ → List Entry → Type 0
@@ -23,21 +22,25 @@ module _ (s : List ℕ) (l : ℕ) where
   -- A of each of n turns from the number i on, which stands in the cell k meanwhile
   unfoldable pub Turning : (State → ℕ → List Entry → Type 0) → (State → Tree State) → ℕ → ℕ → ℕ → State → ℕ → List Entry → Type 0
   Turning A f zero i k st p es = Unit {0}
-  Turning A f (suc n) i k st p es = A (kept st k i) p es × Then (f (kept st k i)) p es (λ a q fs. Turning A f n (suc i) k a q fs)
+  Turning A f (suc n) i k st p es = A (stored st k i) p es × Then (f (stored st k i)) p es (λ a q fs. Turning A f n (suc i) k a q fs)
 
   module _ (Q : Item → List Entry → State → Type 0) where
     unfoldable mutual
       -- inside an item
       pub Inside : Item → State → ℕ → List Entry → Type 0
       Inside (element name i w a) st p es = Unit {0}
-      Inside (span name a) st p es = Unit {0}
-      Inside (scan name a) st p es = Unit {0}
+      Inside (elements name i w a k f n) st p es = Unit {0}
+      Inside (span name k) st p es = Unit {0}
+      Inside (mantissas name a) st p es = Unit {0}
+      Inside (exponents x name i) st p es = Unit {0}
       Inside (when c b) st p es = holdsOf c (st .cells) ≡ true → Along b st p es
-      Inside (reject c n) st p es = Unit {0}
       Inside (each k i n b) st p es =
           Turning (λ a q fs. Along b a q fs) (λ a. meaning b a) (countOf n (st .cells) - sumOf i (st .cells)) (sumOf i (st .cells)) k st p es
+      Inside (reject c n) st p es = Unit {0}
+      Inside (reject-at c n k) st p es = Unit {0}
       Inside (put a v) st p es = Unit {0}
-      Inside (act k x) st p es = Unit {0}
+      Inside (fill k n x y a) st p es = Unit {0}
+      Inside (derive k) st p es = Unit {0}
 
       pub Along : Block → State → ℕ → List Entry → Type 0
       Along end st p es = Unit {0}

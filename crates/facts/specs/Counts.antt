@@ -1,54 +1,42 @@
 -- How many records of width 0 a syntax can make, and how many records an outcome has.
-use mathlib.Core.Bool.{Bool, true, _&&_}
-use Prim.Native.Nat.{ℕ, _+_, _*_, _-_, _≤_}
+use mathlib.Core.Bool.{cond}
+use Prim.Native.Nat.{ℕ, _+_, _*_, _-_, min, max, _≤_}
 use lib.Dec.{eqb}
 use lib.ListN.{length}
 use Rattle.reading.specs.Run.{Outcome}
-use Rattle.walk.specs.Syntax.{Item, Block, element, span, scan, when, reject, each, put, act, end, _⨾_}
-use Rattle.walk.specs.declared.table.Count.{Count}
-use Rattle.walk.specs.declared.table.Count.the-variants.{Fixed, Held}
+use Rattle.cells.specs.Cells.{Addr}
+use Rattle.rows.specs.Syntax.{Count, Fixed, Held, Item, Block, element, elements, span, mantissas, exponents, when, each, reject, reject-at, put, fill, derive, end, _⨾_}
+use Rattle.facts.specs.Bounds.{most}
 
--- so many times
+-- the most that a cell holds, where no counter picks it
+abbrev pub mostAt : Addr → ℕ
+mostAt a = cond (eqb (a .by + a .row) 0) (most (a .base)) 65535
+
+-- as often as a loop can turn
 abbrev pub timesOf : Count → ℕ → ℕ
 timesOf (Fixed n) z = n * z
-timesOf (Held a) z = z
+timesOf (Held a) z = mostAt a * z
 
 -- an element without bits, a span or the mantissas may each have width 0
 unfoldable mutual
   pub zerosIn : Item → ℕ
   zerosIn (element name i w a) = 1 - w
-  zerosIn (span name a) = 1
-  zerosIn (scan name a) = 1
+  zerosIn (elements name i w a k f n) = most n * (1 - w)
+  zerosIn (span name k) = 1
+  zerosIn (mantissas name a) = 1
+  zerosIn (exponents s name i) = 0
   zerosIn (when c b) = zeros b
-  zerosIn (reject c n) = 0
   zerosIn (each k i n b) = timesOf n (zeros b)
+  zerosIn (reject c n) = 0
+  zerosIn (reject-at c n k) = 0
   zerosIn (put a v) = 0
-  zerosIn (act k x) = 0
+  zerosIn (fill k n x y a) = 0
+  zerosIn (derive k) = 0
 
   pub zeros : Block → ℕ
   zeros end = 0
   zeros (i ⨾ b) = zerosIn i + zeros b
 
--- a loop that counts up to a cell makes none
-abbrev pub plainLoop : Count → ℕ → Bool
-plainLoop (Fixed n) z = true
-plainLoop (Held a) z = eqb z 0
-
-unfoldable mutual
-  pub countedIn : Item → Bool
-  countedIn (element name i w a) = true
-  countedIn (span name a) = true
-  countedIn (scan name a) = true
-  countedIn (when c b) = counted b
-  countedIn (reject c n) = true
-  countedIn (each k i n b) = plainLoop n (zeros b) && counted b
-  countedIn (put a v) = true
-  countedIn (act k x) = true
-
-  pub counted : Block → Bool
-  counted end = true
-  counted (i ⨾ b) = countedIn i && counted b
-
--- the records of an outcome from the bit p on are at most as many as its bits, and z more
-pub record Few {A : Type 0} (p z : ℕ) (o : Outcome A) : Type 0 where
-  pub few : length (o .records) + p ≤ o .place + z
+-- the records of an outcome from the bit p on, in a frame that ends at l, are at most as many as the bits that it passes, and z more
+pub record Few {A : Type 0} (l p z : ℕ) (o : Outcome A) : Type 0 where
+  pub few : length (o .records) + p ≤ min (o .place) (max p l) + z

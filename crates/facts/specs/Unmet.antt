@@ -1,16 +1,18 @@
 -- The tests of the reference that no input meets, where it makes them: at the test of the coupling sub-bands, and at the allocation of a block.
+-- Proved in proofs/Unmet.antt.
 use mathlib.Core.Path.{_≡_}
 use mathlib.Core.List.{List}
 use mathlib.Core.Logic.{_⊎_}
-use Prim.Native.Nat.{ℕ, _+_, _≤_, _<_}
+use Prim.Native.Nat.{ℕ, _+_, _*_, _≤_, _<_}
 use Rattle.names.specs.Names.{cplfleak, cplsleak, csnroffst, frmcsnroffst}
-use Rattle.reading.specs.Run.{Entry}
-use Rattle.walk.specs.Cells.{State, cellOf}
-use Rattle.walk.specs.CellNames.{CPLEND, CPLINU, CPLSTRT, ENDMANT, LFEON, NFCHANS}
-use Rattle.walk.specs.Syntax.{Item, element, span, scan, when, reject, each, put, act}
-use Rattle.annex.specs.ActNumbers.{ALLOCATE}
-use Rattle.annex.specs.Cells.{CPLENDF-3, CPLHELD, HELDEND}
-use Rattle.facts.specs.Along.{Has}
+use Rattle.reading.specs.Run.{Entry, accepted, run}
+use Rattle.cells.specs.Cells.{State, cellOf}
+use Rattle.cells.specs.Names.{CPL-SUBND-END, CPLEND, CPLINU, CPLSTRT, ENDMANT, HELDEND, HELDSTRT, LFEON, NFCHANS}
+use Rattle.derivations.specs.Derivations.{Allocation}
+use Rattle.rows.specs.Syntax.{Item, element, elements, span, mantissas, exponents, when, each, reject, reject-at, put, fill, derive, meaning}
+use Rattle.annex.specs.Annex.{header, body}
+use Rattle.annex.specs.Frame.{start, bytesOf}
+use Rattle.facts.specs.Along.{Has, Along}
 
 -- SNR offsets were sent; and coupling leaks
 abbrev pub Offsets : List Entry → Type 0
@@ -24,7 +26,7 @@ abbrev pub Channels : List ℕ → Type 0
 Channels m = (ch : ℕ) → ch < cellOf m NFCHANS → cellOf m (HELDEND + ch) ≡ cellOf m (ENDMANT + ch)
 
 abbrev pub Coupling : List ℕ → Type 0
-Coupling m = cellOf m CPLINU ≡ 1 → (cellOf m CPLHELD ≡ cellOf m CPLSTRT) × (cellOf m (HELDEND + 5) ≡ cellOf m CPLEND)
+Coupling m = cellOf m CPLINU ≡ 1 → (cellOf m HELDSTRT ≡ cellOf m CPLSTRT) × (cellOf m (HELDEND + 5) ≡ cellOf m CPLEND)
 
 abbrev pub Lfe : List ℕ → Type 0
 Lfe m = cellOf m LFEON ≡ 1 → cellOf m (HELDEND + 6) ≡ 7
@@ -40,10 +42,20 @@ pub record Ready (es : List Entry) (m : List ℕ) : Type 0 where
 -- at the rejection 22 cplbegf + ncplsubnd, which is cplendf + 3, is at most 18: the upper half of that test is not met
 abbrev pub Unmet : Item → List Entry → State → Type 0
 Unmet (element name i w a) es st = Unit {0}
-Unmet (span name a) es st = Unit {0}
-Unmet (scan name a) es st = Unit {0}
+Unmet (elements name i w a k f n) es st = Unit {0}
+Unmet (span name k) es st = Unit {0}
+Unmet (mantissas name a) es st = Unit {0}
+Unmet (exponents s name i) es st = Unit {0}
 Unmet (when c b) es st = Unit {0}
-Unmet (reject c n) es st = n ≡ 22 → cellOf (st .cells) CPLENDF-3 ≤ 18
 Unmet (each k i n b) es st = Unit {0}
+Unmet (reject c n) es st = n ≡ 22 → cellOf (st .cells) CPL-SUBND-END ≤ 18
+Unmet (reject-at c n k) es st = Unit {0}
 Unmet (put a v) es st = Unit {0}
-Unmet (act k x) es st = k ≡ ALLOCATE → Ready es (st .cells)
+Unmet (fill k n x y a) es st = Unit {0}
+Unmet (derive k) es st = k ≡ Allocation → Ready es (st .cells)
+
+-- whatever the buffer, wherever the reading of its body comes
+abbrev pub NoneMet : Type 0
+NoneMet =
+    (s : List ℕ) (h : State) → run (meaning header start) s 0 48 .result ≡ accepted h
+    → Along s (8 * bytesOf h) Unmet body h (run (meaning header start) s 0 48 .place) (run (meaning header start) s 0 48 .records)

@@ -3,17 +3,11 @@ use borrow.Author.Needs.{needs}
 use Rattle.eac3.proofs.answer.answer_of.Statement.{statement}
 use Rattle.eac3.proofs.answer.answer_of.Tie as tie
 
-none-requires : tie.Need-none-requires
-none-requires c κs = search needs
-
 returns : tie.Need-returns
 returns c = rw (c .none .ensures, c .before .if1 .taken) refl
-
-frame-of-requires : tie.Need-frame-of-requires
-frame-of-requires c κs = search needs
 
 returns-2 : tie.Need-returns-2
 returns-2 c = rw (c .frame-of .ensures, c .before .if1 .left) refl
 
 pub answer-of-spec : {M : Type 1} → statement M
-answer-of-spec = tie.close (tie.spec none-requires returns frame-of-requires returns-2)
+answer-of-spec = tie.close (tie.spec (λ c κs. search needs) returns (λ c κs. search needs) returns-2)

@@ -1,0 +1,4 @@
+pub mod Tails
+pub mod Gives
+pub mod Header
+pub mod Edges
