@@ -1,5 +1,5 @@
 //! Makes the list of the Rust's answers that the program `replay` holds our reader to, and checks a list against the Rust.
-//! usage: answers FILE FOLDER        makes it; FOLDER has the real frames
+//! usage: answers FILE FOLDER        makes it; FOLDER has the real frames; the further slices of FILE are kept
 //!        answers FILE               checks it
 //!
 //! The file, all numbers high byte first:
@@ -14,6 +14,11 @@
 //!                 7 aht_slots, spx_blocks, cpl_blocks
 //!       2 bytes   how many records
 //!       4 bytes   a sum over the records: b, then a, 2 bytes each
+//!     2 bytes     how many further slices there are
+//!     each of them:
+//!       2 bytes   1 where its records are listed, else 0
+//!       2 bytes   its length, at most 4,200
+//!       ..        the slice
 //!
 //! All after the verdict is 0 where the frame is refused. The sum: a = 1 and b = 0; for each record, for each of the seven
 //! numbers x of name, block + 1, index + 1, first bit, width, value / 65536, value % 65536: a = (a + x) % 65521, then
@@ -154,18 +159,35 @@ fn make(folder: &str) -> Vec<u8> {
     out
 }
 
+fn pair(list: &[u8], at: usize) -> usize {
+    usize::from(u16::from_be_bytes([list[at], list[at + 1]]))
+}
+
+/// Each case of a list, its slice and its answer, and the place where the further slices begin.
+fn cases(list: &[u8]) -> (Vec<(&[u8], &[u8])>, usize) {
+    let mut at = 2;
+    let mut cases = Vec::new();
+    for _ in 0..pair(list, 0) {
+        let end = at + 2 + pair(list, at);
+        cases.push((&list[at + 2..end], &list[end..end + 69]));
+        at = end + 69;
+    }
+    (cases, at)
+}
+
 /// Holds a list to the Rust, case by case.
 fn check(list: &[u8]) -> [usize; 4] {
     let mut verdicts = [0; 4];
-    let mut at = 2;
-    for _ in 0..u16::from_be_bytes([list[0], list[1]]) {
-        let n = usize::from(u16::from_be_bytes([list[at], list[at + 1]]));
-        let src = &list[at + 2..at + 2 + n];
-        at += 2 + n;
-        let told = &list[at..at + 69];
-        at += 69;
+    let (cases, mut at) = cases(list);
+    for (src, told) in cases {
         assert!(case(src) == told, "the Rust gives another answer");
+        assert!(pair(told, 63) <= 2048, "the program has no room for so many records");
         verdicts[usize::from(told[0])] += 1;
+    }
+    let slices = pair(list, at);
+    at += 2;
+    for _ in 0..slices {
+        at += 4 + pair(list, at + 2);
     }
     assert!(at == list.len(), "bytes are left");
     verdicts
@@ -173,9 +195,10 @@ fn check(list: &[u8]) -> [usize; 4] {
 
 fn main() {
     let args: Vec<String> = std::env::args().collect();
+    let stored = std::fs::read(&args[1]).expect("the list can be read");
     let list = match args.get(2) {
-        Some(folder) => make(folder),
-        None => std::fs::read(&args[1]).unwrap(),
+        Some(folder) => [make(folder), stored[cases(&stored).1..].to_vec()].concat(),
+        None => stored,
     };
     let [accepted, invalid, unsupported, truncated] = check(&list);
     std::fs::write(&args[1], &list).unwrap();

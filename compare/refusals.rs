@@ -1,40 +1,80 @@
-//! Makes the list of refused slices that the program `refusals` reads, out of the list of `replay`, and the lines that it must
-//! print, by the numbered walk. Fails where a number is missing.
-//! usage: refusals LIST SLICES LINES
+//! Makes the lines that the program `replay` must print of its input (the form of the file stands at the top of answers.rs), by
+//! the numbered walk and the Rust's answers in it. Fails where a number is missing.
+//! usage: refusals LIST LINES
 #![allow(dead_code)]
 mod names;
 mod numbered;
 mod pointers;
 mod standard;
-use numbered::{read, Seen, State};
+use names::NAMES;
+use numbered::{read, Answer, Record, Seen, State};
 
 /// The room of `listing`.
 const ROOM: usize = 2048;
 
+/// Takes bytes from the front of a list.
+struct List<'a>(&'a [u8]);
+
+impl<'a> List<'a> {
+    fn bytes(&mut self, n: usize) -> &'a [u8] {
+        let (these, rest) = self.0.split_at(n);
+        self.0 = rest;
+        these
+    }
+
+    fn pair(&mut self) -> usize {
+        let two = self.bytes(2);
+        usize::from(u16::from_be_bytes([two[0], two[1]]))
+    }
+
+    fn slice(&mut self) -> &'a [u8] {
+        let n = self.pair();
+        self.bytes(n)
+    }
+}
+
+/// The first line of an answer.
+fn first_line(a: &Answer) -> String {
+    match a[0] {
+        0 => format!("accepted {} {} {}\n", a[3], a[23], a[2]),
+        number => format!("refused {number} {} {}\n", a[1], a[2]),
+    }
+}
+
 fn main() {
     let args: Vec<String> = std::env::args().collect();
-    let list = std::fs::read(&args[1]).expect("the list can be read");
-    let pair = |at: usize| usize::from(u16::from_be_bytes([list[at], list[at + 1]]));
-    let (mut slices, mut lines, mut count) = (Vec::new(), String::new(), 0u16);
-    let (mut records, mut state) = (Vec::new(), State::new());
-    let mut met = [0; 34];
-    let mut at = 2;
-    for _ in 0..pair(0) {
-        let src = &list[at + 2..at + 2 + pair(at)];
-        at += 2 + src.len() + 69;
-        let a = read(src, ROOM, &mut records, &mut state, &mut Seen::default());
+    let file = std::fs::read(&args[1]).expect("the list can be read");
+    let mut list = List(&file);
+    let mut records: Vec<Record> = Vec::new();
+    let mut state = State::new();
+    let mut walk = |src: &[u8], records: &mut Vec<Record>| read(src, ROOM, records, &mut state, &mut Seen::default());
+    let (mut lines, mut met, mut verdicts, mut sum) = (String::new(), [0; 34], [0; 4], 0);
+    let cases = list.pair();
+    for _ in 0..cases {
+        let a = walk(list.slice(), &mut records);
+        let mut theirs = List(list.bytes(69));
+        verdicts[usize::from(theirs.bytes(1)[0])] += 1;
+        theirs.bytes(62);
+        sum += theirs.pair();
+        met[a[0] as usize] += 1;
         if a[0] != 0 {
-            met[a[0] as usize] += 1;
-            count += 1;
-            slices.extend((src.len() as u16).to_be_bytes());
-            slices.extend(src);
-            lines += &format!("refused {} {} {}\n", a[0], a[1], a[2]);
+            lines += &first_line(&a);
         }
     }
-    let missing: Vec<usize> = (1..=13).chain(20..=32).filter(|&k| met[k] == 0).collect();
+    let [accepted, invalid, unsupported, truncated] = verdicts;
+    lines += &format!("cases {cases} accepted {accepted} invalid {invalid} unsupported {unsupported} truncated {truncated} records {sum} differences 0\n");
+    for _ in 0..list.pair() {
+        let listed = list.pair() == 1;
+        let a = walk(list.slice(), &mut records);
+        met[a[0] as usize] += 1;
+        lines += &first_line(&a);
+        for r in records.iter().filter(|_| listed) {
+            lines += &format!("{} {} {} {} {} {}\n", r.first, r.width, NAMES[usize::from(r.name)], r.block, r.index, r.value);
+        }
+    }
+    assert!(list.0.is_empty(), "bytes are left");
+    let missing: Vec<usize> = (1..=13).chain(20..=33).filter(|&k| met[k] == 0).collect();
     assert!(missing.is_empty(), "not in the list: {missing:?}");
-    slices.splice(0..0, count.to_be_bytes());
-    std::fs::write(&args[2], &slices).expect("the slices can be written");
-    std::fs::write(&args[3], lines).expect("the lines can be written");
-    println!("{count} slices, {} bytes; of each number {met:?}", slices.len());
+    std::fs::write(&args[2], &lines).expect("the lines can be written");
+    println!("{} lines; of each number {met:?}", lines.lines().count());
 }

@@ -4,23 +4,25 @@ use mathlib.Core.List.{List, _∷_}
 use Prim.Native.Nat.{ℕ, _+_}
 use native.Mathlib.Numerals.{add-one}
 use lib.ListN.{getD, set}
-use Rattle.eac3_c.specs.Numbers.{laid}
+use Rattle.eac3.specs.declared.answer.Answer.{Answer}
+use Rattle.eac3_c.specs.Numbers.{framed, laid, laidOf, placeOf, countOf, frameNumbers}
+use Rattle.eac3.specs.Answer.{numberBy}
 
-pub laid-none : (m vs : List ℕ) → m ≡ laid m vs 0
-unfolding laid
-laid-none m vs = refl
+pub framed-none : (m vs : List ℕ) → m ≡ framed m vs 0
+unfolding framed
+framed-none m vs = refl
 
-pub laid-more : (m vs x : List ℕ) (i v : ℕ) → x ≡ laid m vs i → v ≡ getD vs i 0 → set x i v ≡ laid m vs (i + 1)
-unfolding laid
-laid-more m vs x i v ex ev = rw (add-one i, ex, ev)
+pub framed-more : (m vs x : List ℕ) (i v : ℕ) → x ≡ framed m vs i → v ≡ getD vs i 0 → set x (i + 3) v ≡ framed m vs (i + 1)
+unfolding framed
+framed-more m vs x i v ex ev = rw (add-one i, ex, ev)
 
-pub laid-all : (m vs x : List ℕ) (i : ℕ) → x ≡ laid m vs i → i ≡ 34 → x ≡ laid m vs 34
-laid-all m vs x i ex ei = ex ∙ ap (laid m vs) ei
+pub framed-all : (m vs x : List ℕ) (i : ℕ) → x ≡ framed m vs i → i ≡ 31 → x ≡ framed m vs 31
+framed-all m vs x i ex ei = ex ∙ ap (framed m vs) ei
 
 -- two lists that begin alike and go on alike
 pub also : {x y : ℕ} {xs ys : List ℕ} → x ≡ y → xs ≡ ys → (x ∷ xs) ≡ (y ∷ ys)
 also e es = ap₂ _∷_ e es
 
--- numbers written, and what they are
-pub laid-are : (m vs ws x : List ℕ) → x ≡ laid m vs 34 → vs ≡ ws → x ≡ laid m ws 34
-laid-are m vs ws x e h = e ∙ ap (λ us. laid m us 34) h
+-- numbers written, and what they are of an answer a, which is the answer A of a definition
+pub laid-are : (m x vs : List ℕ) (n p k : ℕ) {a A : Answer} → x ≡ laid m n p k vs → n ≡ numberBy (a .verdict) → p ≡ placeOf (a .verdict) (a .frame .bytes .0) → k ≡ countOf (a .verdict) (a .frame .fields) → vs ≡ frameNumbers (a .frame) → a ≡ A → x ≡ laidOf m A
+laid-are m x vs n p k e f g h i j = e ∙ rw f (rw g (rw h (rw i (ap (laidOf m) j))))

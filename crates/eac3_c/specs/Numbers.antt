@@ -2,12 +2,13 @@
 use mathlib.Core.Path.{_≡_}
 use mathlib.Core.Bool.{Bool, true, false}
 use mathlib.Core.List.{List, [], _∷_}
-use Prim.Native.Nat.{ℕ, zero, suc, _*_}
+use Prim.Native.Nat.{ℕ, zero, suc, _+_, _*_}
 use lib.ListN.{getD, set}
 use Rattle.reading.specs.Room.{Room, Out}
-use Rattle.walk.specs.Cells.{State}
+use Rattle.cells.specs.Cells.{State}
 use Rattle.eac3.specs.Answer.{answerOf, numberOf, numberBy}
 use Rattle.eac3.specs.declared.answer.Answer.{Answer}
+use Rattle.eac3.specs.declared.answer.Frame.{Frame}
 use Rattle.eac3.specs.declared.answer.Verdict.{Verdict}
 use Rattle.eac3.specs.declared.answer.Verdict.the-variants.{Accepted, Refused}
 
@@ -25,18 +26,14 @@ abbrev pub countOf : Verdict → ℕ → ℕ
 countOf Accepted fields = fields
 countOf (Refused k p n) fields = n
 
--- number, place, records; bytes, bsid, acmod, lfeon, fscod, strmtyp, substreamid, numblks; six starts of blocks, six of mantissas; the end of
--- the audio, tags, seven slots, blocks with spectral extension, blocks with coupling
-unfoldable pub numbersOf : Answer → List ℕ
-numbersOf a =
-    let f = a .frame in
+-- bytes, bsid, acmod, lfeon, fscod, strmtyp, substreamid, numblks; six starts of blocks, six of mantissas; the end of the audio, tags, seven slots,
+-- blocks with spectral extension, blocks with coupling
+unfoldable pub frameNumbers : Frame → List ℕ
+frameNumbers f =
     let b = f .«block_starts» in
     let m = f .«mantissa_starts» in
     let s = f .«aht_slots» in
-    numberBy (a .verdict)
-    ∷ placeOf (a .verdict) (f .bytes .0)
-    ∷ countOf (a .verdict) (f .fields)
-    ∷ f .bytes .0
+    f .bytes .0
     ∷ f .bsid
     ∷ f .acmod
     ∷ bitOf (f .lfeon)
@@ -69,13 +66,20 @@ numbersOf a =
     ∷ f .«cpl_blocks»
     ∷ []
 
--- a list with the first n of some numbers put at its beginning
-unfoldable pub laid : List ℕ → List ℕ → ℕ → List ℕ
-laid m vs zero = m
-laid m vs (suc n) = set (laid m vs n) n (getD vs n 0)
+-- a list with the first n of a frame's numbers from its fourth place on
+unfoldable pub framed : List ℕ → List ℕ → ℕ → List ℕ
+framed m vs zero = m
+framed m vs (suc n) = set (framed m vs n) (n + 3) (getD vs n 0)
+
+-- a list with number, place and count in its first three places, and then the frame's numbers
+unfoldable pub laid : List ℕ → ℕ → ℕ → ℕ → List ℕ → List ℕ
+laid m number place count frame = framed (set (set (set m 0 number) 1 place) 2 count) frame 31
+
+abbrev pub laidOf : List ℕ → Answer → List ℕ
+laidOf m a = laid m (numberBy (a .verdict)) (placeOf (a .verdict) (a .frame .bytes .0)) (countOf (a .verdict) (a .frame .fields)) (frameNumbers (a .frame))
 
 -- what the function tells: the number, the room as the reading left it, and the answer
-pub record Told (o : Out State) (r : ℕ) (m : Room) (before after : List ℕ) : Type 0 where
+pub record Given (o : Out State) (r : ℕ) (m : Room) (before after : List ℕ) : Type 0 where
   pub number : r ≡ numberOf (answerOf o)
   pub left : m ≡ o .left
-  pub answer : after ≡ laid before (numbersOf (answerOf o)) 34
+  pub answer : after ≡ laidOf before (answerOf o)

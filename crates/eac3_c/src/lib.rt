@@ -3,9 +3,9 @@ ghost use mathlib.Core.Path.{_≡_};
 ghost use Prim.Native.Nat.{_*_};
 ghost use Rattle.reading.specs.Room.{room};
 ghost use Rattle.eac3.specs.Answer.{answered, numberBy};
-ghost use Rattle.eac3_c.specs.Numbers.{bitOf, placeOf, countOf, numbersOf, laid, Told};
+ghost use Rattle.eac3_c.specs.Numbers.{bitOf, placeOf, countOf, frameNumbers, laid, Given};
 use bits::ByteCount;
-use eac3::answer::Answer;
+use eac3::answer::Frame;
 use eac3::answer::Verdict;
 
 fn wide(x: u16) -> u64
@@ -14,13 +14,7 @@ fn wide(x: u16) -> u64
     x as u64
 }
 
-fn narrow(x: u8) -> u64
-    ensures { λ r. ⌜ r ≡ x ⌝ }
-{
-    x as u64
-}
-
-fn flag(b: bool) -> u64
+fn flag(b: bool) -> u16
     ensures { λ r. ⌜ r ≡ bitOf b ⌝ }
 {
     if b { 1 } else { 0 }
@@ -54,60 +48,55 @@ fn count_of(v: Verdict, fields: usize) -> u64
     }
 }
 
-// The answer as 34 numbers.
-fn numbers(a: Answer) -> [u64; 34]
-    ensures { λ r. ⌜ r ≡ numbersOf a ⌝ }
+// What the answer tells of a frame, as numbers.
+pub fn numbers(f: Frame) -> [u16; 31]
+    ensures { λ r. ⌜ r ≡ frameNumbers f ⌝ }
 {
-    let v = a.verdict;
-    let f = a.frame;
-    let b = f.block_starts;
-    let m = f.mantissa_starts;
-    let s = f.aht_slots;
     [
-        narrow(number_of(v)),
-        place_of(v, f.bytes),
-        count_of(v, f.fields),
-        wide(f.bytes.0),
-        wide(f.bsid),
-        wide(f.acmod),
+        f.bytes.0,
+        f.bsid,
+        f.acmod,
         flag(f.lfeon),
-        wide(f.fscod),
-        wide(f.strmtyp),
-        wide(f.substreamid),
-        wide(f.numblks),
-        wide(b[0]),
-        wide(b[1]),
-        wide(b[2]),
-        wide(b[3]),
-        wide(b[4]),
-        wide(b[5]),
-        wide(m[0]),
-        wide(m[1]),
-        wide(m[2]),
-        wide(m[3]),
-        wide(m[4]),
-        wide(m[5]),
-        wide(f.audio_end.0),
-        wide(f.aht_tags),
-        flag(s[0]),
-        flag(s[1]),
-        flag(s[2]),
-        flag(s[3]),
-        flag(s[4]),
-        flag(s[5]),
-        flag(s[6]),
-        wide(f.spx_blocks),
-        wide(f.cpl_blocks),
+        f.fscod,
+        f.strmtyp,
+        f.substreamid,
+        f.numblks,
+        f.block_starts[0],
+        f.block_starts[1],
+        f.block_starts[2],
+        f.block_starts[3],
+        f.block_starts[4],
+        f.block_starts[5],
+        f.mantissa_starts[0],
+        f.mantissa_starts[1],
+        f.mantissa_starts[2],
+        f.mantissa_starts[3],
+        f.mantissa_starts[4],
+        f.mantissa_starts[5],
+        f.audio_end.0,
+        f.aht_tags,
+        flag(f.aht_slots[0]),
+        flag(f.aht_slots[1]),
+        flag(f.aht_slots[2]),
+        flag(f.aht_slots[3]),
+        flag(f.aht_slots[4]),
+        flag(f.aht_slots[5]),
+        flag(f.aht_slots[6]),
+        f.spx_blocks,
+        f.cpl_blocks,
     ]
 }
 
-// Writes 34 numbers.
-fn lay(out: &mut [u64; 34], all: [u64; 34])
-    ensures { λ _. ⌜ now (out .exit) ≡ laid (now (out .entry)) all 34 ⌝ }
+// Writes three numbers and those of a frame.
+fn lay(out: &mut [u64; 34], number: u64, place: u64, count: u64, frame: [u16; 31])
+    ensures { λ _. ⌜ now (out .exit) ≡ laid (now (out .entry)) number place count frame ⌝ }
 {
+    out[0] = number;
+    out[1] = place;
+    out[2] = count;
     let mut i: usize = 0;
-    while i < 34 {
-        out[i] = all[i];
+    while i < 31 {
+        out[i + 3] = wide(frame[i]);
         i += 1;
     }
 }
@@ -124,11 +113,15 @@ pub extern "C" fn eac3_parse(
     values: &mut [u32],
     answer: &mut [u64; 34],
 ) -> u8
-    ensures { λ r. ⌜ Told (answered (now (src .entry)) (room (now (names .entry)) (now (blocks .entry)) (now (indexes .entry)) (now (firsts .entry)) (now (widths .entry)) (now (values .entry)))) r
+    ensures { λ r. ⌜ Given (answered (now (src .entry)) (room (now (names .entry)) (now (blocks .entry)) (now (indexes .entry)) (now (firsts .entry)) (now (widths .entry)) (now (values .entry)))) r
         (room (now (names .exit)) (now (blocks .exit)) (now (indexes .exit)) (now (firsts .exit)) (now (widths .exit)) (now (values .exit))) (now (answer .entry)) (now (answer .exit)) ⌝ }
 {
     let a = eac3::parse(src, names, blocks, indexes, firsts, widths, values);
     let v = a.verdict;
-    lay(answer, numbers(a));
-    number_of(v)
+    let f = a.frame;
+    let number = number_of(v);
+    let place = place_of(v, f.bytes);
+    let count = count_of(v, f.fields);
+    lay(answer, number as u64, place, count, numbers(f));
+    number
 }

@@ -4,7 +4,7 @@ use Prim.Native.Nat.{ℕ}
 use lib.IntN.{pos}
 use lib.ListN.{replicate}
 use Rattle.reading.specs.Room.{Room, room, Out}
-use Rattle.walk.specs.Cells.{State}
+use Rattle.cells.specs.Cells.{State}
 use Rattle.eac3.specs.Answer.{answered}
 
 -- n records, all 0

@@ -70,24 +70,27 @@ pub fn count_of(answer: Answer) -> usize
     }
 }
 
-fn accepted(frame: Frame) {
-    text(b"accepted ");
-    number(frame.bytes.0 as u64);
+fn three(a: u64, b: u64, c: u64) {
+    number(a);
     blank();
-    number(frame.audio_end.0 as u64);
+    number(b);
     blank();
-    number(frame.fields as u64);
+    number(c);
     newline();
 }
 
-fn refused(refusal: u8, place: u16, count: usize) {
+fn accepted(frame: Frame) {
+    text(b"accepted ");
+    three(
+        frame.bytes.0 as u64,
+        frame.audio_end.0 as u64,
+        frame.fields as u64,
+    );
+}
+
+pub fn refused(refusal: u8, place: u16, count: usize) {
     text(b"refused ");
-    number(refusal as u64);
-    blank();
-    number(place as u64);
-    blank();
-    number(count as u64);
-    newline();
+    three(refusal as u64, place as u64, count as u64);
 }
 
 // The answer: frame bytes, end of audio and records; or number, place and records.
@@ -138,7 +141,7 @@ fn lines(table: &[u8; 3232], r: Records, count: usize)
 }
 
 // The answer on the first line, then a line for each record.
-fn print_all(r: Records) {
+pub fn list(r: Records) {
     first_line(r.answer);
     let table = names::table();
     lines(&table, r, count_of(r.answer));
@@ -153,11 +156,5 @@ pub fn input() -> Records {
 
 // Lists the frame on standard input.
 pub fn run() {
-    print_all(input());
-}
-
-// Prints the answer alone.
-pub fn run_brief() {
-    let r = input();
-    first_line(r.answer);
+    list(input());
 }

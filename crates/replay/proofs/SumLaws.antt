@@ -2,7 +2,7 @@
 use mathlib.Core.Path.{_≡_, refl, sym, _∙_, ap, ap₂}
 use mathlib.Core.Bool.{Bool, true, false, true≢false, _&&_}
 use Prim.Native.Nat.{ℕ, suc, _+_, _*_, _≤_, _<_, min}
-use mathlib.Core.List.{List, [], _∷_}
+use mathlib.Core.List.{List}
 use native.Mathlib.Omega.{arith}
 use lib.Dec.{eqb}
 use lib.IntN.{ℤ, pos, negsuc, natAbs}
@@ -13,11 +13,11 @@ use mir.Val.{Fits, SFits, toZ, ofZ}
 use mir.Facts.{toZ-ofZ, fits-below}
 use Rattle.print.proofs.Signs.{not-below}
 use Rattle.reading.specs.Room.{Room}
-use Rattle.eac3.specs.declared.answer.Answer.{Answer}
 use Rattle.eac3.specs.declared.answer.Frame.{Frame}
+use Rattle.eac3.specs.declared.answer.Verdict.{Verdict}
+use Rattle.eac3_c.specs.Numbers.{frameNumbers}
 use Rattle.replay.specs.Sums.{raisedOf, addedOf, sumOf}
-use Rattle.replay.specs.Told.{flagOf, verdictOf, numbersOf, keptOf, toldBy, agreesOf}
-use Rattle.replay.specs.declared.told.Told.{Told}
+use Rattle.replay.specs.Cases.{verdictOf, keptOf, agreesOf, endsOf, sameBy}
 use Rattle.replay.specs.declared.sums.Sum.{Sum}
 
 pub below : (z : ℤ) → ltZ z (pos 0) ≡ true → 0 ≡ raisedOf z
@@ -43,11 +43,6 @@ pub more : (ours theirs : List ℕ) (k : ℕ) {a h b : Bool} → a ≡ agreesOf 
 unfolding agreesOf
 more ours theirs k e f g = let z : k + 1 ≡ suc k = omega arith in g ∙ ap₂ _&&_ e f ∙ ap (λ n. agreesOf ours theirs n) (sym z)
 
--- what is told of an answer a and a room m, which are the answer A and the room M of a definition
-pub tell-is : {a A : Answer} {m M : Room} {v l : ℕ} {ns : List ℕ} {k s : Sum} → v ≡ verdictOf (a .verdict) → ns ≡ numbersOf (a .frame) k → k ≡ keptOf (a .verdict) s → s ≡ sumOf m l → l ≡ min (a .frame .fields) 32782 → a ≡ A → m ≡ M → _≡_ {A = Told} (record { verdict = v; numbers = ns }) (toldBy A M)
-tell-is {a} {A} {m} {M} {v} {l} {ns} {k} {s} f g h i j p q =
-    rw f (rw g (rw h (rw i (rw j (ap₂ toldBy p q)))))
-
--- the numbers of a frame, with its flags and its count as numbers
-pub numbers-is : (f : Frame) (s : Sum) {l x0 x1 x2 x3 x4 x5 x6 n : ℕ} → l ≡ flagOf (f .lfeon) → x0 ≡ flagOf (getD (f .«aht_slots») 0 false) → x1 ≡ flagOf (getD (f .«aht_slots») 1 false) → x2 ≡ flagOf (getD (f .«aht_slots») 2 false) → x3 ≡ flagOf (getD (f .«aht_slots») 3 false) → x4 ≡ flagOf (getD (f .«aht_slots») 4 false) → x5 ≡ flagOf (getD (f .«aht_slots») 5 false) → x6 ≡ flagOf (getD (f .«aht_slots») 6 false) → n ≡ min (f .fields) 65535 → (f .bytes .0 ∷ f .bsid ∷ f .acmod ∷ l ∷ f .fscod ∷ f .strmtyp ∷ f .substreamid ∷ f .numblks ∷ getD (f .«block_starts») 0 0 ∷ getD (f .«block_starts») 1 0 ∷ getD (f .«block_starts») 2 0 ∷ getD (f .«block_starts») 3 0 ∷ getD (f .«block_starts») 4 0 ∷ getD (f .«block_starts») 5 0 ∷ getD (f .«mantissa_starts») 0 0 ∷ getD (f .«mantissa_starts») 1 0 ∷ getD (f .«mantissa_starts») 2 0 ∷ getD (f .«mantissa_starts») 3 0 ∷ getD (f .«mantissa_starts») 4 0 ∷ getD (f .«mantissa_starts») 5 0 ∷ f .«audio_end» .0 ∷ f .«aht_tags» ∷ x0 ∷ x1 ∷ x2 ∷ x3 ∷ x4 ∷ x5 ∷ x6 ∷ f .«spx_blocks» ∷ f .«cpl_blocks» ∷ n ∷ s .b ∷ s .a ∷ []) ≡ numbersOf f s
-numbers-is f s a b c d e g h i j = rw a (rw b (rw c (rw d (rw e (rw g (rw h (rw i (rw j refl))))))))
+-- a case whose parts agree
+pub same-is : (v : Verdict) (f : Frame) (m : Room) (theirs : List ℕ) {s k : Sum} {ns : List ℕ} {x n l : ℕ} {r i b e : Bool} → r ≡ (eqb x (getD theirs 0 0) && i) → i ≡ (b && e) → x ≡ verdictOf v → b ≡ agreesOf ns theirs 31 → ns ≡ frameNumbers f → e ≡ endsOf n k theirs → n ≡ min (f .fields) 65535 → k ≡ keptOf v s → s ≡ sumOf m l → l ≡ min (f .fields) 2048 → r ≡ sameBy v f (sumOf m (min (f .fields) 2048)) theirs
+same-is v w m theirs a b c d e f g h i j = rw a (rw b (rw c (rw d (rw e (rw f (rw g (rw h (rw i (rw j refl)))))))))

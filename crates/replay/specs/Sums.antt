@@ -3,7 +3,8 @@ use mathlib.Core.List.{List}
 use Prim.Native.Nat.{ℕ, zero, suc, _+_, _/_, _%_}
 use lib.IntN.{ℤ, pos, negsuc}
 use lib.ListN.{getD}
-use Rattle.reading.specs.Room.{Room}
+use Rattle.reading.specs.Room.{Room, room}
+use Rattle.listing.specs.declared.Records.{Records}
 use Rattle.replay.specs.declared.sums.Sum.{Sum}
 
 abbrev pub sum : ℕ → ℕ → Sum
@@ -21,6 +22,10 @@ raisedOf (negsuc n) = 0
 unfoldable pub addedOf : Sum → ℕ → ℤ → ℤ → ℕ → ℕ → ℕ → Sum
 addedOf s name block index first width value =
     addOf (addOf (addOf (addOf (addOf (addOf (addOf s name) (raisedOf block)) (raisedOf index)) first) width) (value / 65536)) (value % 65536)
+
+-- the records of a frame
+abbrev pub roomOf : Records → Room
+roomOf r = room (r .names) (r .blocks) (r .indexes) (r .firsts) (r .widths) (r .values)
 
 -- over the first records of a room
 unfoldable pub sumOf : Room → ℕ → Sum

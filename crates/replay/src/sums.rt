@@ -1,9 +1,8 @@
 // The sum over the records of a frame that a list of answers holds.
 ghost use mathlib.Core.Path.{_≡_};
 ghost use Prim.Native.Nat.{_+_, _≤_, _/_, _%_};
-ghost use lib.ListN.{length};
-ghost use Rattle.reading.specs.Room.{room};
-ghost use Rattle.replay.specs.Sums.{addOf, raisedOf, addedOf, sumOf};
+ghost use Rattle.replay.specs.Sums.{addOf, raisedOf, addedOf, roomOf, sumOf};
+use listing::Records;
 
 // Two sums modulo 65521.
 pub struct Sum {
@@ -66,29 +65,21 @@ fn added(s: Sum, name: u8, block: i8, index: i16, first: u16, width: u16, value:
 }
 
 // Over the first n records.
-pub fn summed(
-    names: &[u8],
-    blocks: &[i8],
-    indexes: &[i16],
-    firsts: &[u16],
-    widths: &[u16],
-    values: &[u32],
-    n: usize,
-) -> Sum
-    requires { ⌜ (n ≤ length (now names)) × (n ≤ length (now blocks)) × (n ≤ length (now indexes)) × (n ≤ length (now firsts)) × (n ≤ length (now widths)) × (n ≤ length (now values)) ⌝ }
-    ensures { λ r. ⌜ r ≡ sumOf (room (now (names .entry)) (now (blocks .entry)) (now (indexes .entry)) (now (firsts .entry)) (now (widths .entry)) (now (values .entry))) n ⌝ }
+pub fn summed(r: Records, n: usize) -> Sum
+    requires { ⌜ n ≤ 2048 ⌝ }
+    ensures { λ s. ⌜ s ≡ sumOf (roomOf r) n ⌝ }
 {
     let mut s = Sum { a: 1, b: 0 };
     let mut i = 0;
     while i < n {
         s = added(
             s,
-            names[i],
-            blocks[i],
-            indexes[i],
-            firsts[i],
-            widths[i],
-            values[i],
+            r.names[i],
+            r.blocks[i],
+            r.indexes[i],
+            r.firsts[i],
+            r.widths[i],
+            r.values[i],
         );
         i += 1;
     }

@@ -4,17 +4,8 @@ use borrow.Author.Needs.{needs}
 use Rattle.listing.proofs.count_of.Statement.{statement}
 use Rattle.listing.proofs.count_of.Tie as tie
 
-enum-told : tie.Need-enum-told
-enum-told c = search needs
-
-enum-known-verdict : tie.Need-enum-known-verdict
-enum-known-verdict c = search needs
-
-returns : tie.Need-returns
-returns c = search needs
-
 returns-2 : tie.Need-returns-2
 returns-2 c = rw (c .before .verdict .given .1) refl
 
 pub count-of-spec : {M : Type 1} → statement M
-count-of-spec = tie.close (tie.spec enum-told enum-known-verdict returns returns-2)
+count-of-spec = tie.close (tie.spec (λ c. search needs) (λ c. search needs) (λ c. search needs) returns-2)

@@ -13,12 +13,9 @@ returns : tie.Need-returns
 unfolding names spellings
 returns c = sym (ap length (List·getD-eq-default spellings [] {n = c .before .args .name} (omega arith)))
 
-array-read-result : tie.Need-array-read-result
-array-read-result c = search needs
-
 returns-2 : tie.Need-returns-2
 unfolding names spellings bytes
 returns-2 c = List·getD-map length spellings (c .before .args .name) []
 
 pub letters-spec : {M : Type 1} → statement M
-letters-spec = tie.close (tie.spec returns array-read-result returns-2)
+letters-spec = tie.close (tie.spec returns (λ c. search needs) returns-2)

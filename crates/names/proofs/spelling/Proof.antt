@@ -9,8 +9,6 @@ use Rattle.names.specs.Spelling.{spellings, spellingOf, padded}
 use Rattle.names.proofs.Rows.{count, at-row, filled, copied}
 use Rattle.names.proofs.spelling.Statement.{statement}
 use Rattle.names.proofs.spelling.Tie as tie
-use Rattle.names.proofs.spelling.Reads as reads
-use Rattle.names.proofs.spelling.Lts as lts
 
 abbrev Inv-loop : tie.InvT-loop
 Inv-loop table name out₀ from i₀ out i = (i ≤ 16) × (length out ≡ 16) × ((k : ℕ) → k < i → getD out k 0 ≡ getD (padded 16 (spellingOf name)) k 0)
@@ -22,26 +20,8 @@ returns : tie.Need-returns Inv-loop μ-loop
 unfolding padded
 returns c = ap (padded 16) (sym (List·getD-eq-default spellings [] {n = c .before .args .name} (rw count (omega arith))))
 
-mul-from : tie.Need-mul-from Inv-loop μ-loop
-mul-from c = search needs
-
 loop-holds : tie.Need-loop-holds Inv-loop μ-loop
 loop-holds c = (omega arith, refl, λ k h. absurd (let z : ⊥ = omega arith in z))
-
-add-out : tie.Need-add-out Inv-loop μ-loop
-add-out c = search needs
-
-element-copy-out-out : tie.Need-element-copy-out-out Inv-loop μ-loop
-element-copy-out-out c = search needs
-
-array-write-out : tie.Need-array-write-out Inv-loop μ-loop
-array-write-out c = search needs
-
-add-i : tie.Need-add-i Inv-loop μ-loop
-add-i c = search needs
-
-loop-less : tie.Need-loop-less Inv-loop μ-loop
-loop-less c = search needs
 
 loop-again : tie.Need-loop-again Inv-loop μ-loop
 loop-again c =
@@ -57,17 +37,5 @@ returns-2 c = filled _ _ (c .before .loop .inv .1) (λ k h. c .before .loop .inv
 
 pub spelling-spec : {M : Type 1} → statement M
 spelling-spec =
-    tie.close
-    (tie.spec
-    Inv-loop
-    μ-loop
-    returns
-    mul-from
-    loop-holds
-    add-out
-    element-copy-out-out
-    array-write-out
-    add-i
-    loop-less
-    loop-again
-    returns-2)
+    tie.close (tie.spec Inv-loop μ-loop returns (λ c. search needs) loop-holds (λ c. search needs) (λ c. search needs)
+    (λ c. search needs) (λ c. search needs) (λ c. search needs) loop-again returns-2)

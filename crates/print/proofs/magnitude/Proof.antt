@@ -49,6 +49,4 @@ returns-2 : tie.Need-returns-2
 returns-2 c = ap natAbs (toZ-ofZ (c .before .fits .n))
 
 pub magnitude-spec : {M : Type 1} → statement M
-magnitude-spec =
-    tie.close
-    (tie.spec cast-result sub-result cast-result-2 returns cast-result-3 returns-2)
+magnitude-spec = tie.close (tie.spec cast-result sub-result cast-result-2 returns cast-result-3 returns-2)

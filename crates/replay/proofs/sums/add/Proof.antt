@@ -5,15 +5,9 @@ use borrow.Author.Needs.{needs}
 use Rattle.replay.proofs.sums.add.Statement.{statement}
 use Rattle.replay.proofs.sums.add.Tie as tie
 
-plus-requires : tie.Need-plus-requires
-plus-requires c κs = search needs
-
-plus-requires-2 : tie.Need-plus-requires-2
-plus-requires-2 c κs = search needs
-
 returns : tie.Need-returns
 unfolding addOf
 returns c = rw (c .plus2 .ensures) (rw (c .before .plus .ensures) refl)
 
 pub add-spec : {M : Type 1} → statement M
-add-spec = tie.close (tie.spec plus-requires plus-requires-2 returns)
+add-spec = tie.close (tie.spec (λ c κs. search needs) (λ c κs. search needs) returns)

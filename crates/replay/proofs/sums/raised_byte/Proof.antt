@@ -12,11 +12,8 @@ use Rattle.replay.proofs.sums.raised_byte.Tie as tie
 cast-raised : tie.Need-cast-raised
 cast-raised c = widened (c .fits .n)
 
-raised-requires : tie.Need-raised-requires
-raised-requires c κs = search needs
-
 returns : tie.Need-returns
 returns c = c .raised .ensures ∙ ap raisedOf (ap (λ z. toZ w16 (ofZ w16 z)) (toZ-ofZ (c .before .fits .n)) ∙ toZ-ofZ (sfits-widen {w = w8} {w′ = w16} tt (c .before .fits .n)))
 
 pub raised-byte-spec : {M : Type 1} → statement M
-raised-byte-spec = tie.close (tie.spec cast-raised raised-requires returns)
+raised-byte-spec = tie.close (tie.spec cast-raised (λ c κs. search needs) returns)

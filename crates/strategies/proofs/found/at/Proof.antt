@@ -8,14 +8,8 @@ use borrow.Author.Needs.{needs}
 use Rattle.strategies.proofs.found.at.Statement.{statement}
 use Rattle.strategies.proofs.found.at.Tie as tie
 
-cast-find : tie.Need-cast-find
-cast-find c = search needs
-
-find-requires : tie.Need-find-requires
-find-requires c κs = search needs
-
 returns : tie.Need-returns
 returns c = c .find .ensures ∙ ap (λ z. valueOf (c .before .args .r) (c .before .args .count) (c .before .args .name) z (c .before .args .after)) (toZ-pos w16 (let h = fits-lt-pow (c .before .fits .index) in omega (arith, h)))
 
 pub at-spec : {M : Type 1} → statement M
-at-spec = tie.close (tie.spec cast-find find-requires returns)
+at-spec = tie.close (tie.spec (λ c. search needs) (λ c κs. search needs) returns)

@@ -16,41 +16,11 @@ Inv-loop count name index after r n left₀ i₀ left i = (i ≤ n) × (found r 
 abbrev μ-loop : tie.MeasureT-loop
 μ-loop count name index after r n left₀ i₀ left i = n - i
 
-least-requires : tie.Need-least-requires Inv-loop μ-loop
-least-requires c κs = search needs
-
 loop-holds : tie.Need-loop-holds Inv-loop μ-loop
 loop-holds c = (omega arith, ap (λ f. found (c .before .args .t1) (c .before .args .name) (toZ w16 (ofZ w16 (c .before .args .index))) f 0 (c .before .args .after)) (omega arith))
 
-element-copy-out-is-of : tie.Need-element-copy-out-is-of Inv-loop μ-loop
-element-copy-out-is-of c = search needs
-
-mul-is-of : tie.Need-mul-is-of Inv-loop μ-loop
-mul-is-of c = search needs
-
-element-copy-out-is-of-2 : tie.Need-element-copy-out-is-of-2 Inv-loop μ-loop
-element-copy-out-is-of-2 c = search needs
-
-is-of-requires : tie.Need-is-of-requires Inv-loop μ-loop
-is-of-requires c κs = search needs
-
-last-requires : tie.Need-last-requires Inv-loop μ-loop
-last-requires c κs = search needs
-
-mul-t20 : tie.Need-mul-t20 Inv-loop μ-loop
-mul-t20 c = search needs
-
-element-copy-out-t23 : tie.Need-element-copy-out-t23 Inv-loop μ-loop
-element-copy-out-t23 c = search needs
-
 returns : tie.Need-returns Inv-loop μ-loop
 returns c = here _ _ _ _ _ _ _ (c .before .before .before .before .before .before .loop-test .taken) (c .before .before .before .before .before .before .before .loop .inv .1) (c .before .before .before .before .is-of-arg2 .given) (c .before .before .before .is-of .ensures) (c .before .before .last .ensures) (c .before .if1 .taken) ∙ whole _ _ _ (c .before .before .before .before .before .before .before .before .before .fits .index) (c .before .before .before .before .before .before .before .before .least .ensures)
-
-passed-requires : tie.Need-passed-requires Inv-loop μ-loop
-passed-requires c κs = search needs
-
-add-i : tie.Need-add-i Inv-loop μ-loop
-add-i c = search needs
 
 loop-less : tie.Need-loop-less Inv-loop μ-loop
 loop-less c = omega arith
@@ -63,22 +33,6 @@ returns-2 c = ended _ _ _ _ _ _ _ (c .loop-test .left) (c .before .loop .inv .1)
 
 pub find-spec : {M : Type 1} → statement M
 find-spec =
-    tie.close
-    (tie.spec
-    Inv-loop
-    μ-loop
-    least-requires
-    loop-holds
-    element-copy-out-is-of
-    mul-is-of
-    element-copy-out-is-of-2
-    is-of-requires
-    last-requires
-    mul-t20
-    element-copy-out-t23
-    returns
-    passed-requires
-    add-i
-    loop-less
-    loop-again
-    returns-2)
+    tie.close (tie.spec Inv-loop μ-loop (λ c κs. search needs) loop-holds (λ c. search needs) (λ c. search needs)
+    (λ c. search needs) (λ c κs. search needs) (λ c κs. search needs) (λ c. search needs) (λ c. search needs) returns
+    (λ c κs. search needs) (λ c. search needs) loop-less loop-again returns-2)

@@ -8,9 +8,6 @@ use Rattle.strategies.proofs.found.passed.Tie as tie
 returns : tie.Need-returns
 returns c = rw (c .before .if1 .taken) (let h = c .if2 .taken in omega (arith, h))
 
-sub-result : tie.Need-sub-result
-sub-result c = search needs
-
 returns-2 : tie.Need-returns-2
 returns-2 c = rw (c .before .if1 .taken) refl
 
@@ -18,4 +15,4 @@ returns-3 : tie.Need-returns-3
 returns-3 c = rw (c .if1 .left) refl
 
 pub passed-spec : {M : Type 1} → statement M
-passed-spec = tie.close (tie.spec returns sub-result returns-2 returns-3)
+passed-spec = tie.close (tie.spec returns (λ c. search needs) returns-2 returns-3)

@@ -5,15 +5,6 @@ use borrow.Author.Needs.{needs}
 use Rattle.strategies.proofs.grid.coded.Statement.{statement}
 use Rattle.strategies.proofs.grid.coded.Tie as tie
 
-enum-known-f : tie.Need-enum-known-f
-enum-known-f c = search needs
-
-expanded-requires : tie.Need-expanded-requires
-expanded-requires c κs = search needs
-
-enum-told : tie.Need-enum-told
-enum-told c = search needs
-
 returns : tie.Need-returns
 unfolding codedOf
 returns c = rw (c .before .before .f .given .1) (c .expanded .ensures)
@@ -23,4 +14,4 @@ unfolding codedOf
 returns-2 c = rw (c .enum-told .given .1) refl
 
 pub coded-spec : {M : Type 1} → statement M
-coded-spec = tie.close (tie.spec enum-known-f expanded-requires enum-told returns returns-2)
+coded-spec = tie.close (tie.spec (λ c. search needs) (λ c κs. search needs) (λ c. search needs) returns returns-2)

@@ -5,18 +5,6 @@ use borrow.Author.Needs.{needs}
 use Rattle.strategies.proofs.grid.expanded.Statement.{statement}
 use Rattle.strategies.proofs.grid.expanded.Tie as tie
 
-frame-expstr-requires : tie.Need-frame-expstr-requires
-frame-expstr-requires c κs = search needs
-
-mul-result : tie.Need-mul-result
-mul-result c = search needs
-
-add-result : tie.Need-add-result
-add-result c = search needs
-
-array-read-result : tie.Need-array-read-result
-array-read-result c = search needs
-
 returns : tie.Need-returns
 returns c = rw (below (c .before .if2 .taken)) (rw (below (c .before .before .if1 .taken)) (rw (c .frame-expstr .ensures) refl))
 
@@ -28,12 +16,5 @@ returns-3 c = rw (above (c .if1 .left)) refl
 
 pub expanded-spec : {M : Type 1} → statement M
 expanded-spec =
-    tie.close
-    (tie.spec
-    frame-expstr-requires
-    mul-result
-    add-result
-    array-read-result
-    returns
-    returns-2
-    returns-3)
+    tie.close (tie.spec (λ c κs. search needs) (λ c. search needs) (λ c. search needs) (λ c. search needs) returns
+    returns-2 returns-3)

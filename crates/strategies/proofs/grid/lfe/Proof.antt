@@ -5,14 +5,8 @@ use borrow.Author.Needs.{needs}
 use Rattle.strategies.proofs.grid.lfe.Statement.{statement}
 use Rattle.strategies.proofs.grid.lfe.Tie as tie
 
-at-requires : tie.Need-at-requires
-at-requires c κs = search needs
-
-chosen-requires : tie.Need-chosen-requires
-chosen-requires c κs = search needs
-
 returns : tie.Need-returns
 returns c = c .chosen .ensures ∙ ap (λ f. chosenOf f 4) (c .before .at .ensures)
 
 pub lfe-spec : {M : Type 1} → statement M
-lfe-spec = tie.close (tie.spec at-requires chosen-requires returns)
+lfe-spec = tie.close (tie.spec (λ c κs. search needs) (λ c κs. search needs) returns)

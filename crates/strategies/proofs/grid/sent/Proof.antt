@@ -5,9 +5,6 @@ use borrow.Author.Needs.{needs}
 use Rattle.strategies.proofs.grid.sent.Statement.{statement}
 use Rattle.strategies.proofs.grid.sent.Tie as tie
 
-cast-result : tie.Need-cast-result
-cast-result c = search needs
-
 returns : tie.Need-returns
 returns c = rw (below (c .if1 .taken)) refl
 
@@ -15,4 +12,4 @@ returns-2 : tie.Need-returns-2
 returns-2 c = rw (above (c .if1 .left)) refl
 
 pub sent-spec : {M : Type 1} → statement M
-sent-spec = tie.close (tie.spec cast-result returns returns-2)
+sent-spec = tie.close (tie.spec (λ c. search needs) returns returns-2)

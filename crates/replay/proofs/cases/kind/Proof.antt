@@ -1,10 +1,10 @@
 -- In each arm the definition computes at the arm's number.
 use mathlib.Core.Path.{refl, sym, ap}
 use borrow.Author.Tests.{ne-eqb}
-use Rattle.replay.specs.Told.{kindOf}
+use Rattle.replay.specs.Cases.{kindOf}
 use borrow.Author.Needs.{needs}
-use Rattle.replay.proofs.told.kind.Statement.{statement}
-use Rattle.replay.proofs.told.kind.Tie as tie
+use Rattle.replay.proofs.cases.kind.Statement.{statement}
+use Rattle.replay.proofs.cases.kind.Tie as tie
 
 returns : tie.Need-returns
 returns c = ap kindOf (sym (c .match .keys1))
