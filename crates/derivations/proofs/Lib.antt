@@ -2,5 +2,4 @@ pub mod StepLaws
 pub mod FrameLaws
 pub mod BlockLaws
 pub mod AllocLaws
-pub mod Keeps
-pub mod Edges
+pub mod Allocated

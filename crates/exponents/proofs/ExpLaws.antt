@@ -165,38 +165,3 @@ module _ (bins : List ℕ) (held : Held bins) where
             exps = λ k l. at-put slot bin e h (ltb-true slot 7 (p .0)) (ltb-true bin 256 (p .1)) k l (ℕ-discrete k (256 * slot + bin));
           }
       go false q = held
-
-pub spread-held : (bins : List ℕ) (slot bin n e : ℕ) → Held bins → e ≤ 24 → Held (spreadOf bins slot bin n e)
-unfolding spreadOf
-spread-held bins slot bin zero e held h = held
-spread-held bins slot bin (suc n) e held h = spread-held (putOf bins slot bin e) slot (suc bin) n e (put-held bins held slot bin e h) h
-
-pub laid-held : (bins : List ℕ) (slot size bin a b c : ℕ) → Held bins → a ≤ 24 → b ≤ 24 → c ≤ 24 → Held (laidOf bins slot size bin a b c)
-unfolding laidOf
-laid-held bins slot size bin a b c held ha hb hc =
-    spread-held (spreadOf (spreadOf bins slot bin size a) slot (bin + size) size b) slot (bin + 2 * size) size c
-    (spread-held (spreadOf bins slot bin size a) slot (bin + size) size b (spread-held bins slot bin size a held ha) hb) hc
-
--- exponents lie below the pointers
-pub put-high : (bins : List ℕ) (slot bin e k : ℕ) → 1792 ≤ k → getD (putOf bins slot bin e) k 0 ≡ getD bins k 0
-unfolding putOf
-put-high bins slot bin e k h = go (ltb slot 7 && ltb bin 256) refl
-  where
-    go : (t : Bool) → ltb slot 7 && ltb bin 256 ≡ t → getD (cond t (set bins (256 * slot + bin) e) bins) k 0 ≡ getD bins k 0
-    go true q =
-        let p = both (ltb slot 7) (ltb bin 256) q in
-        let l = ltb-true slot 7 (p .0) in
-        let m = ltb-true bin 256 (p .1) in
-        getD-set-other bins (256 * slot + bin) k e 0 (let z : k ≡ 256 * slot + bin → ⊥ = omega arith in z)
-    go false q = refl
-
-spread-high : (bins : List ℕ) (slot bin n e k : ℕ) → 1792 ≤ k → getD (spreadOf bins slot bin n e) k 0 ≡ getD bins k 0
-unfolding spreadOf
-spread-high bins slot bin zero e k h = refl
-spread-high bins slot bin (suc n) e k h = spread-high (putOf bins slot bin e) slot (suc bin) n e k h ∙ put-high bins slot bin e k h
-
-pub laid-high : (bins : List ℕ) (slot size bin a b c k : ℕ) → 1792 ≤ k → getD (laidOf bins slot size bin a b c) k 0 ≡ getD bins k 0
-unfolding laidOf
-laid-high bins slot size bin a b c k h =
-    spread-high (spreadOf (spreadOf bins slot bin size a) slot (bin + size) size b) slot (bin + 2 * size) size c k h
-    ∙ spread-high (spreadOf bins slot bin size a) slot (bin + size) size b k h ∙ spread-high bins slot bin size a k h

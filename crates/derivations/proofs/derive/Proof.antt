@@ -1,5 +1,5 @@
 use Rattle.derivations.proofs.BlockLaws.{endmants-are}
-use Rattle.derivations.proofs.Keeps.{allocated-held-by}
+use Rattle.derivations.proofs.Allocated.{allocated-held-by}
 use Rattle.derivations.specs.Derivations.{derived}
 use borrow.Author.Tests.{ne-eqb}
 use borrow.Author.Needs.{needs}
