@@ -17,15 +17,16 @@ extern "C" {
     fn blocks_groups(slot: u8, strategy: u8, start: u16, end: u16) -> u16;
     fn blocks_start(slot: u8, absexp: u8) -> u8;
     fn blocks_first(slot: u8, start: u16) -> u16;
-    fn blocks_put(bins: &mut [u8; 3584], slot: u8, bin: u32, e: u8);
-    fn blocks_lay(bins: &mut [u8; 3584], slot: u8, strategy: u8, bin: u16, a: u8, b: u8, c: u8);
+    fn blocks_put(exps: &mut [u8; 1792], slot: u8, bin: u32, e: u8);
+    fn blocks_lay(exps: &mut [u8; 1792], slot: u8, strategy: u8, bin: u16, a: u8, b: u8, c: u8);
     fn blocks_decode(prev: u8, group: u8) -> u32;
-    fn blocks_conventional(bins: &[u8; 3584], slot: u8, start: u16, end: u16, g1: u8, g2: u8, g4: u8, at: u16, limit: u16) -> u64;
-    fn blocks_aht(src: &[u8], bins: &[u8; 3584], slot: u8, start: u16, end: u16, at: u16, limit: u16) -> u64;
+    fn blocks_conventional(baps: &[u8; 1792], slot: u8, start: u16, end: u16, g1: u8, g2: u8, g4: u8, at: u16, limit: u16) -> u64;
+    fn blocks_aht(src: &[u8], baps: &[u8; 1792], slot: u8, start: u16, end: u16, at: u16, limit: u16) -> u64;
     fn blocks_allocate(
         sent: bool, codes: &[u8; 5], csnroffst: u8, fsnroffst: &[u8; 7], fgaincod: &[u8; 7], cplfleak: u8, cplsleak: u8,
         fscod: u8, nfchans: u8, lfeon: bool, cplinu: bool, ahtinu: &[bool; 7], ahtread: &[bool; 7], endmant: &[u16; 5],
-        cplstrt: u16, cplend: u16, n: &[u8; 6], offset: &[u8; 48], len: &[u8; 48], ba: &[u8; 48], bins: &mut [u8; 3584],
+        cplstrt: u16, cplend: u16, n: &[u8; 6], offset: &[u8; 48], len: &[u8; 48], ba: &[u8; 48],
+        exps: *const [u8; 1792], baps: &mut [u8; 1792],                          // a plain pointer: rustc cannot assume that they stay
     ) -> u8;
 }
 
@@ -85,7 +86,7 @@ fn exponents(r: &mut Random) -> Option<u8> {
     let mut cur = Cursor::new(&data, limit);
     let theirs = blocks::read_exponents(&mut cur, slot, strategy, start, end);
     // ours, as the walk reads a set
-    let mut bins = [0u8; 3584];
+    let mut exps = [0u8; 1792];
     let mut at = 0usize;
     let mut number = 0u8;
     let s = slot as u8;
@@ -94,14 +95,14 @@ fn exponents(r: &mut Random) -> Option<u8> {
         'set: {
             let Some(abs) = take(4, &mut at) else { number = 8; break 'set };
             let mut prev = blocks_start(s, abs);
-            if slot != 5 { blocks_put(&mut bins, s, 0, prev) }
+            if slot != 5 { blocks_put(&mut exps, s, 0, prev) }
             let mut bin = blocks_first(s, start as u16);
             for _ in 0..blocks_groups(s, strategy, start as u16, end as u16) {
                 let Some(g) = take(7, &mut at) else { number = 8; break 'set };
                 let d = blocks_decode(prev, g);
                 if d >> 24 != 0 { number = (d >> 24) as u8; break 'set }
                 let (a, b, c) = (d as u8, (d >> 8) as u8, (d >> 16) as u8);
-                blocks_lay(&mut bins, s, strategy, bin, a, b, c);
+                blocks_lay(&mut exps, s, strategy, bin, a, b, c);
                 prev = c;
                 bin += 3 << (strategy - 1);
             }
@@ -109,16 +110,16 @@ fn exponents(r: &mut Random) -> Option<u8> {
     }
     match theirs {
         Err(e) => refusal(&e) == number && cur.pos == at,
-        Ok(t) => number == 0 && cur.pos == at && (0..256).all(|k| t.exp[k] == i16::from(bins[256 * slot + k])),
+        Ok(t) => number == 0 && cur.pos == at && (0..256).all(|k| t.exp[k] == i16::from(exps[256 * slot + k])),
     }
     .then_some(number)
 }
 
 // Conventional mantissas of one to four slots, one after the other.
 fn conventional(r: &mut Random) -> Option<u8> {
-    let mut bins = [0u8; 3584];
+    let mut baps = [0u8; 1792];
     let most = [16, 5, 3][r.below(3) as usize];
-    for b in bins[1792..].iter_mut() { *b = r.byte(most) }
+    for b in baps.iter_mut() { *b = r.byte(most) }
     let limit = if r.below(2) == 0 { r.below(6000) as usize } else { 32768 };
     let data = [0u8; 4096];
     let mut cur = Cursor::new(&data, limit);
@@ -127,9 +128,9 @@ fn conventional(r: &mut Random) -> Option<u8> {
     for _ in 0..1 + r.below(4) {
         let slot = r.below(7) as usize;
         let (start, end) = if slot == 5 { coupling(r) } else { (0, end(r)) };
-        let bap = &bins[1792 + 256 * slot..1792 + 256 * slot + 256];
+        let bap = &baps[256 * slot..256 * slot + 256];
         let theirs = blocks::conventional(&mut cur, bap, start, end, &mut g);
-        let o = unsafe { blocks_conventional(&bins, slot as u8, start as u16, end as u16, g1, g2, g4, at, limit as u16) };
+        let o = unsafe { blocks_conventional(&baps, slot as u8, start as u16, end as u16, g1, g2, g4, at, limit as u16) };
         let number = o as u8;
         at = (o >> 8) as u16;
         (g1, g2, g4) = ((o >> 24) as u8, (o >> 32) as u8, (o >> 40) as u8);
@@ -143,18 +144,18 @@ fn conventional(r: &mut Random) -> Option<u8> {
 }
 
 fn aht(r: &mut Random) -> Option<u8> {
-    let mut bins = [0u8; 3584];
+    let mut baps = [0u8; 1792];
     let low = r.byte(9);
     let most = low as u64 + 1 + r.below(20 - low as u64);
-    for b in bins[1792..].iter_mut() { *b = low + r.byte(most - low as u64) }
+    for b in baps.iter_mut() { *b = low + r.byte(most - low as u64) }
     let data = r.bytes(4096);
     let limit = if r.below(2) == 0 { r.below(9000) as usize } else { 32768 };
     let slot = r.below(7) as usize;
     let (start, end) = match slot { 5 => coupling(r), 6 => (0, 7), _ => (0, end(r)) };
-    let hebap = &bins[1792 + 256 * slot..1792 + 256 * slot + 256];
+    let hebap = &baps[256 * slot..256 * slot + 256];
     let mut cur = Cursor::new(&data, limit);
     let theirs = blocks::aht(&mut cur, hebap, start, end);
-    let o = unsafe { blocks_aht(&data, &bins, slot as u8, start as u16, end as u16, 0, limit as u16) };
+    let o = unsafe { blocks_aht(&data, &baps, slot as u8, start as u16, end as u16, 0, limit as u16) };
     let (number, at, tags) = (o as u8, (o >> 8) as u16, (o >> 24) as u16);
     let same = match theirs {
         Err(e) => refusal(&e) == number,
@@ -164,12 +165,12 @@ fn aht(r: &mut Random) -> Option<u8> {
 }
 
 fn allocate(r: &mut Random) -> Option<u8> {
-    let mut bins = [0u8; 3584];
+    let mut exps = [0u8; 1792];
     for slot in 0..7 {
         let mut e = r.below(25) as i32;
-        for k in 0..256 { e = (e + r.below(5) as i32 - 2).clamp(0, 24); bins[256 * slot + k] = e as u8 }
+        for k in 0..256 { e = (e + r.below(5) as i32 - 2).clamp(0, 24); exps[256 * slot + k] = e as u8 }
     }
-    for b in bins[1792..].iter_mut() { *b = 0xee }
+    let mut baps = [0xeeu8; 1792];
     let sent = r.below(20) != 0;
     let codes = [r.byte(4), r.byte(4), r.byte(4), r.byte(4), r.byte(8)];
     let csnr = if r.below(3) == 0 { 0 } else { r.byte(64) };
@@ -205,7 +206,7 @@ fn allocate(r: &mut Random) -> Option<u8> {
     let sets: Vec<blocks::ExpSet> = (0..7)
         .map(|s| {
             let (start, end) = match s { 5 => (cplstrt, cplend), 6 => (0, 7), _ => (0, endmant[s] as usize) };
-            blocks::ExpSet { exp: (0..256).map(|k| i16::from(bins[256 * s + k])).collect(), start, end }
+            blocks::ExpSet { exp: (0..256).map(|k| i16::from(exps[256 * s + k])).collect(), start, end }
         })
         .collect();
     let asked: Vec<usize> = (0..7)
@@ -216,17 +217,17 @@ fn allocate(r: &mut Random) -> Option<u8> {
         .map(|&s| blocks::SlotAlloc { slot: s, exps: &sets[s], start: sets[s].start, end: sets[s].end, high_efficiency: ahtinu[s] })
         .collect();
     let theirs = blocks::allocate_block(&st, fscod as usize, &req);
-    let before = bins;
+    let (exps_before, baps_before) = (exps, baps);
     let number = unsafe {
         blocks_allocate(sent, &codes, csnr, &fsnr, &fgain, leaks.0, leaks.1, fscod, nfchans, lfeon, cplinu, &ahtinu, &ahtread,
-            &endmant, cplstrt as u16, cplend as u16, &n, &offset, &len, &ba, &mut bins)
+            &endmant, cplstrt as u16, cplend as u16, &n, &offset, &len, &ba, &raw mut exps, &mut baps)
     };
     let same = match theirs {
-        Err(e) => refusal(&e) == number && bins == before,
+        Err(e) => refusal(&e) == number && exps == exps_before && baps == baps_before,
         Ok(out) => {
-            number == 0 && bins[..1792] == before[..1792]
+            number == 0 && exps == exps_before
                 && (0..7).all(|s| {
-                    let p = &bins[1792 + 256 * s..2048 + 256 * s];
+                    let p = &baps[256 * s..256 * s + 256];
                     if asked.contains(&s) {
                         (0..256).all(|k| p[k] == out[s].get(k).copied().unwrap_or(0))
                     } else {

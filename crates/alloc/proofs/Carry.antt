@@ -5,19 +5,21 @@ use mathlib.Core.Bool.{Bool, true, false, _&&_, not, cond}
 use mathlib.Core.List.{List, _++_}
 use Prim.Native.Nat.{ℕ, zero, suc, _+_, _-_, _*_, _/_, _%_, _<_, _≤_, min, max}
 use native.Mathlib.Decide.{decLt}
-use native.Mathlib.Nat.{zero-add}
+use native.Mathlib.Nat.{zero-add, add-assoc}
 use native.Mathlib.Omega.{arith}
 use borrow.Author.Tests.{lt-ltb, le-ltb}
 use lib.Dec.{ltb, leb, eqb}
-use lib.ListN.{getD, List·getD-append}
+use lib.ListN.{length, getD, List·getD-append}
 use lib.Seq.{getD-append-add}
 use lib.IntN.{ℤ, pos, negℤ, subℕ, natAbs, _+ℤ_, _-ℤ_, +ℤ-comm}
 use lib.Signed.{ltZ}
 use Rattle.tables.specs.BitAllocation.{latab, hth, baptab, hebaptab}
 use Rattle.tables.specs.Bands.{bandOf}
+use Rattle.tables.specs.Steps.{steps}
 use Rattle.tables.proofs.Bins.{own-band, bands-rise}
+use Rattle.tables.proofs.Stepped.{length-steps, steps-at}
 use Rattle.alloc.specs.Allocation.{maxZ, floored, firstIn, lastIn, psd, logadd, sum, bndpsd, calcLowcomp, lfeLast, decayFrom, begin, fastleak, slowleak, lowcomp, excite, masked, covers, deltaed, stepped, address, tableOf, snroffset, mask, pointer, allocation, fastOf, slowOf}
-use Rattle.alloc.specs.Levels.{value, psdL, logaddL, apart, sumL, bndpsdL, bndpsdsL, lowcompL, nextLowL, decayFromL, beginL, fastL, slowL, lowL, exciteL, maskedL, hearL, deltaedL, steppedL, addressL, maskL, masksL, masksOf, pointerL, allocationL, baseOf, gainsOf, leaksOf, levelsOf}
+use Rattle.alloc.specs.Levels.{value, psdL, logaddL, apart, sumL, bndpsdL, bndpsdsL, lowcompL, nextLowL, decayFromL, beginL, fastL, slowL, lowL, exciteL, maskedL, hearL, deltaedL, placeL, maskL, placesL, placesOf, pointerL, allocationL, baseOf, gainsOf, leaksOf, levelOf, levelsOf}
 use Rattle.alloc.specs.Premises.{Exponents, Tuned, Channelled}
 use Rattle.alloc.specs.declared.Channel.{Channel}
 use Rattle.alloc.specs.declared.Deltas.{Deltas}
@@ -30,7 +32,7 @@ use Rattle.alloc.specs.declared.Pointers.{Pointers}
 use Rattle.alloc.specs.declared.Pointers.the-variants.{Bap, Hebap}
 use Rattle.alloc.proofs.Lists.{getD-tab, tab-same, within, ranged}
 use Rattle.alloc.proofs.LogSums.{logadd-bound}
-use Rattle.alloc.proofs.Signs.{value-minus, value-plus, value-apart, value-max, value-ltb, value-eqb, value-cond, value-pos, value-level, not-ltb, abs-sub, leak-reads, floored-sub, step-reads, address-reads, offset-is}
+use Rattle.alloc.proofs.Signs.{value-minus, value-plus, value-apart, value-max, value-ltb, value-eqb, value-cond, value-pos, value-level, not-ltb, abs-sub, leak-reads, floored-sub, step-reads, address-reads, offset-is, level-is}
 
 -- 7.2.2.2
 value-psd : (e : ℕ) → e ≤ 24 → value (psdL e) ≡ psd e
@@ -244,7 +246,13 @@ module _ (d : Deltas) (b m : ℕ) (high : 8192 ≤ m) where
       (value-move (ltb (getD (d .ba) i 0) 4) (deltaedL d b m i) ((4 - getD (d .ba) i 0) * 128) ((getD (d .ba) i 0 - 3) * 128) (omega arith))
       ∙ rw r
 
--- 7.2.2.7
+-- 7.2.2.7: the mask less the offset, in steps of 32 above the floor, and the address, on levels
+abbrev steppedL : ℕ → ℕ → ℕ → ℕ
+steppedL mask snr floor = (mask + 960 - snr - floor) / 32 % 256 * 32 + floor
+
+abbrev addressL : ℕ → ℕ → ℕ
+addressL psd mask = min ((psd - mask) / 32) 63
+
 value-step : (m snr floor : ℕ) → value (steppedL m snr floor) ≡ stepped (value m) (subℕ snr 960) (value floor)
 value-step m snr floor =
     ap value (let z : steppedL m snr floor ≡ floor + (m + 960 - snr - floor) / 32 % 256 * 32 = omega arith in z)
@@ -255,18 +263,36 @@ value-step m snr floor =
 read-address : (a m : ℕ) → addressL a m ≡ address (value a) (value m)
 read-address a m = ap (λ x. min x 63) (address-reads a m)
 
--- an entry of one of the two tables, which lie one after the other
-table-at : (kind : Pointers) (a : ℕ) → a < 64 → getD (baptab ++ hebaptab) (baseOf kind + a) 0 ≡ getD (tableOf kind) a 0
-unfolding baptab
-table-at Bap a h = ap (λ x. getD (baptab ++ hebaptab) x 0) (zero-add a) ∙ List·getD-append baptab hebaptab 0 a h
-table-at Hebap a h = getD-append-add baptab hebaptab a 0
+-- where a mask stands s steps above a floor, the address of an exponent by steps
+by-steps : (e s floor : ℕ) → e ≤ 24 → 6144 ≤ floor → floor ≤ 11264
+    → 160 - (s + (160 - (11264 - floor) / 32) + 4 * e) ≡ (psdL e - (s * 32 + floor)) / 32
+by-steps e s floor h lo hi = omega arith
 
-masks-at : (g : Gains) (l : Leaks) (q : Levels) (d : Deltas) (bnd : List ℕ) (first last b : ℕ) → first ≤ b → b < last → b < 50
-    → getD (masksL g l q d bnd first last) b 0 ≡ maskL g l q d bnd first last b
-unfolding masksL
-masks-at g l q d bnd first last b lo hi h =
-    getD-tab (λ i. cond (leb first i && ltb i last) (maskL g l q d bnd first last i) 0) 50 b h
-    ∙ within first last b (maskL g l q d bnd first last b) 0 lo hi
+place-address : (e m snr floor : ℕ) → e ≤ 24 → 6144 ≤ floor → floor ≤ 11264
+    → min (160 - (placeL m snr floor + 4 * e)) 63 ≡ addressL (psdL e) (steppedL m snr floor)
+place-address e m snr floor h lo hi =
+    let z : m + 960 - snr - floor ≡ m + 960 - (snr + floor) = omega arith in
+    rw z (ap (λ x. min x 63) (by-steps e ((m + 960 - (snr + floor)) / 32 % 256) floor h lo hi))
+
+-- an entry of one of the two tables, which lie one after the other
+table-at : (kind : Pointers) (t : ℕ) → t < 512
+    → getD (steps baptab 0 512 ++ steps hebaptab 0 512) (baseOf kind + t) 0 ≡ getD (tableOf kind) (min (160 - t) 63) 0
+table-at Bap t h =
+    let n : t < length (steps baptab 0 512) = rw (length-steps baptab 0 512) h in
+    ap (λ x. getD (steps baptab 0 512 ++ steps hebaptab 0 512) x 0) (zero-add t)
+    ∙ List·getD-append (steps baptab 0 512) (steps hebaptab 0 512) 0 t n
+    ∙ steps-at baptab 512 t h
+table-at Hebap t h =
+    ap (λ n. getD (steps baptab 0 512 ++ steps hebaptab 0 512) (n + t) 0) (sym (length-steps baptab 0 512))
+    ∙ getD-append-add (steps baptab 0 512) (steps hebaptab 0 512) t 0
+    ∙ steps-at hebaptab 512 t h
+
+places-at : (g : Gains) (l : Leaks) (q : Levels) (d : Deltas) (bnd : List ℕ) (first last b : ℕ) → first ≤ b → b < last → b < 50
+    → getD (placesL g l q d bnd first last) b 0 ≡ placeL (maskL g l q d bnd first last b) (q .snr) (q .floor)
+unfolding placesL
+places-at g l q d bnd first last b lo hi h =
+    getD-tab (λ i. cond (leb first i && ltb i last) (placeL (maskL g l q d bnd first last i) (q .snr) (q .floor)) 0) 50 b h
+    ∙ within first last b (placeL (maskL g l q d bnd first last b) (q .snr) (q .floor)) 0 lo hi
 
 -- the whole
 module _ (kind : Pointers) (exp : List ℕ) (c : Channel) (q : Params) (l : Leak) (d : Deltas)
@@ -293,7 +319,7 @@ module _ (kind : Pointers) (exp : List ℕ) (c : Channel) (q : Params) (l : Leak
       }
 
   mask-reads : (b : ℕ) → bandOf (c .start) ≤ b → b < 50
-      → value (maskL (gainsOf (c .fgain) q) (leaksOf l) (levelsOf q (c .csnroffst) (c .fsnroffst)) d (bndpsdsL exp (c .start) (c .end)) (bandOf (c .start)) (bandOf (c .end - 1) + 1) b)
+      → value (steppedL (maskL (gainsOf (c .fgain) q) (leaksOf l) (levelsOf q (c .csnroffst) (c .fsnroffst)) d (bndpsdsL exp (c .start) (c .end)) (bandOf (c .start)) (bandOf (c .end - 1) + 1) b) (64 * c .csnroffst + 4 * c .fsnroffst) (levelOf (q .floor)))
       ≡ mask kind exp c q l d b
   mask-reads b h k =
       let first = bandOf (c .start) in
@@ -313,23 +339,31 @@ module _ (kind : Pointers) (exp : List ℕ) (c : Channel) (q : Params) (l : Leak
       (value-mask e (getD bnd b 0) q (c .csnroffst) (c .fsnroffst) b ∙ ap₂ (λ y z. masked y z q b) x (bnd-reads b k)))
 
   pointer-reads : (j : ℕ) → c .start ≤ j → j < c .end
-      → pointerL (baptab ++ hebaptab) (baseOf kind) exp (masksOf exp (c .start) (c .end) (gainsOf (c .fgain) q) (leaksOf l) (levelsOf q (c .csnroffst) (c .fsnroffst)) d) j
+      → pointerL (steps baptab 0 512 ++ steps hebaptab 0 512) (baseOf kind) exp (placesOf exp (c .start) (c .end) (gainsOf (c .fgain) q) (leaksOf l) (levelsOf q (c .csnroffst) (c .fsnroffst)) d) j
       ≡ pointer kind exp c q l d j
-  unfolding masksOf
+  unfolding placesOf
   pointer-reads j h k =
       let first = bandOf (c .start) in
       let last = bandOf (c .end - 1) + 1 in
+      let bnd = bndpsdsL exp (c .start) (c .end) in
+      let s = levelsOf q (c .csnroffst) (c .fsnroffst) in
       let w : j < 253 = omega (arith, channel .within) in
       let b = own-band j w in
       let lo = bands-rise (c .start) j first (bandOf j) h (own-band (c .start) (omega arith)) b in
       let hi = bands-rise j (c .end - 1) (bandOf j) (bandOf (c .end - 1)) (omega arith) b (own-band (c .end - 1) (omega (arith, channel .within))) in
-      let at = masks-at (gainsOf (c .fgain) q) (leaksOf l) (levelsOf q (c .csnroffst) (c .fsnroffst)) d (bndpsdsL exp (c .start) (c .end)) first last (bandOf j) lo (omega arith) (b .is) in
-      table-at kind _ (omega arith)
+      let m = maskL (gainsOf (c .fgain) q) (leaksOf l) s d bnd first last (bandOf j) in
+      let at = places-at (gainsOf (c .fgain) q) (leaksOf l) s d bnd first last (bandOf j) lo (omega arith) (b .is) in
+      let e = ready .low j h k in
+      let f = level-is (q .floor) (tuned .least) (tuned .most) in
+      ap (λ p. getD (steps baptab 0 512 ++ steps hebaptab 0 512) (baseOf kind + p + 4 * getD exp j 0) 0) at
+      ∙ ap (λ t. getD (steps baptab 0 512 ++ steps hebaptab 0 512) t 0) (add-assoc (baseOf kind) (placeL m (s .snr) (s .floor)) (4 * getD exp j 0))
+      ∙ table-at kind (placeL m (s .snr) (s .floor) + 4 * getD exp j 0) (omega arith)
       ∙ ap (λ x. getD (tableOf kind) x 0)
-      (read-address (psdL (getD exp j 0)) _
-      ∙ ap₂ address (value-psd (getD exp j 0) (ready .low j h k)) (ap value at ∙ mask-reads (bandOf j) lo (b .is)))
+      (place-address (getD exp j 0) m (s .snr) (s .floor) e (f .1) (f .2)
+      ∙ read-address (psdL (getD exp j 0)) (steppedL m (s .snr) (s .floor))
+      ∙ ap₂ address (value-psd (getD exp j 0) e) (mask-reads (bandOf j) lo (b .is)))
 
-  pub levels-are : allocationL (baptab ++ hebaptab) (baseOf kind) exp (c .start) (c .end) (gainsOf (c .fgain) q) (leaksOf l) (levelsOf q (c .csnroffst) (c .fsnroffst)) d
+  pub levels-are : allocationL (steps baptab 0 512 ++ steps hebaptab 0 512) (baseOf kind) exp (c .start) (c .end) (gainsOf (c .fgain) q) (leaksOf l) (levelsOf q (c .csnroffst) (c .fsnroffst)) d
       ≡ allocation kind exp c q l d
   unfolding allocationL allocation
   levels-are = tab-same _ _ 256 (λ j h. ranged (c .start) (c .end) j _ _ 0 (λ a b. pointer-reads j a b))

@@ -1,23 +1,19 @@
 -- Values at the edges, and how large a pointer is.
 -- Assumes nothing.
 use mathlib.Core.Path.{_≡_, refl}
-use mathlib.Core.Bool.{Bool, true, false, _&&_, cond}
 use mathlib.Core.List.{List}
-use Prim.Native.Nat.{ℕ, _<_, _≤_, zero-le}
-use native.Mathlib.Decide.{decLt}
-use native.Mathlib.Omega.{arith}
-use lib.Dec.{leb, ltb}
+use Prim.Native.Nat.{ℕ, _≤_}
 use lib.IntN.{ℤ, pos, negsuc, _+ℤ_}
-use lib.ListN.{getD, List·getD-eq-default}
+use lib.ListN.{getD}
 use Rattle.tables.proofs.Limits.{bap-at-most-15, hebap-at-most-19}
 use Rattle.tables.proofs.Neighbours.{latab-high}
-use Rattle.alloc.specs.Allocation.{tab, maxZ, logadd, snroffset, pointer, allocation}
+use Rattle.alloc.specs.Allocation.{maxZ, logadd, snroffset, pointer, allocation}
 use Rattle.alloc.specs.declared.Channel.{Channel}
 use Rattle.alloc.specs.declared.Deltas.{Deltas}
 use Rattle.alloc.specs.declared.Leak.{Leak}
 use Rattle.alloc.specs.declared.Params.{Params}
 use Rattle.alloc.specs.declared.Pointers.the-variants.{Bap, Hebap}
-use Rattle.alloc.proofs.Lists.{length-tab, getD-tab}
+use Rattle.alloc.proofs.Lists.{ranged-most}
 
 -- rows for the table of proved values
 pub offset-0-0 : snroffset 0 0 ≡ negsuc 959
@@ -41,24 +37,11 @@ pub record Above (m r : ℤ) : Type 0 where
 pub logadd-above : (a b : ℤ) → Above (maxZ a b) (logadd a b)
 logadd-above a b = record { by = _; is = refl; most = latab-high _ }
 
--- no entry of a list of 256 with zeros outside a range is above a bound of those within
-ranged-most : (f : ℕ → ℕ) (lo hi most : ℕ) → ((k : ℕ) → f k ≤ most) → (k : ℕ) → Dec (k < 256)
-    → getD (tab (λ i. cond (leb lo i && ltb i hi) (f i) 0) 0 256) k 0 ≤ most
-ranged-most f lo hi most h k (yes b) =
-    rw (getD-tab (λ i. cond (leb lo i && ltb i hi) (f i) 0) 256 k b) (by (leb lo k && ltb k hi))
-  where
-    by : (t : Bool) → cond t (f k) 0 ≤ most
-    by true = h k
-    by false = zero-le
-ranged-most f lo hi most h k (no n) =
-    let l = length-tab (λ i. cond (leb lo i && ltb i hi) (f i) 0) 0 256 in
-    rw (List·getD-eq-default (tab (λ i. cond (leb lo i && ltb i hi) (f i) 0) 0 256) 0 {n = k} (omega arith)) zero-le
-
 module _ (exp : List ℕ) (c : Channel) (q : Params) (l : Leak) (d : Deltas) (k : ℕ) where
   pub pointer-at-most-15 : getD (allocation Bap exp c q l d) k 0 ≤ 15
   unfolding allocation
-  pointer-at-most-15 = ranged-most (pointer Bap exp c q l d) (c .start) (c .end) 15 (λ j. bap-at-most-15 _) k (decLt k 256)
+  pointer-at-most-15 = ranged-most (pointer Bap exp c q l d) (c .start) (c .end) 256 15 (λ j. bap-at-most-15 _) k
 
   pub pointer-at-most-19 : getD (allocation Hebap exp c q l d) k 0 ≤ 19
   unfolding allocation
-  pointer-at-most-19 = ranged-most (pointer Hebap exp c q l d) (c .start) (c .end) 19 (λ j. hebap-at-most-19 _) k (decLt k 256)
+  pointer-at-most-19 = ranged-most (pointer Hebap exp c q l d) (c .start) (c .end) 256 19 (λ j. hebap-at-most-19 _) k

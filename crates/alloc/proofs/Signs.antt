@@ -157,12 +157,12 @@ pub value-pos : (n : ℕ) → value (8192 + n) ≡ pos n
 value-pos n = value-plus 8192 n ∙ ap pos (zero-add n)
 
 -- the level of a floor
-pub level-is : (z : ℤ) → negsuc 2047 ≤ℤ z → z ≤ℤ pos 752 → (z +ℤ pos 8192 ≡ pos (levelOf z)) × (levelOf z < 16384)
-level-is (pos n) lo hi = let h = leb→le n 752 (hi .le) in (refl, omega arith)
+pub level-is : (z : ℤ) → negsuc 2047 ≤ℤ z → z ≤ℤ pos 752 → (z +ℤ pos 8192 ≡ pos (levelOf z)) × (6144 ≤ levelOf z) × (levelOf z ≤ 11264)
+level-is (pos n) lo hi = let h = leb→le n 752 (hi .le) in (refl, omega arith, omega arith)
 level-is (negsuc n) lo hi =
     let h = leb→le n 2047 (lo .le) in
     let e = more 8192 (suc n) (omega arith) in
-    (e ∙ ap pos (sym (ap floored e)), rw e (omega arith))
+    (e ∙ ap pos (sym (ap floored e)), rw e (omega arith), rw e (omega arith))
 
 pub value-level : (z : ℤ) → negsuc 2047 ≤ℤ z → z ≤ℤ pos 752 → value (levelOf z) ≡ z
 value-level (pos n) lo hi = more (n + 8192) 8192 (omega arith) ∙ ap pos (let q : n + 8192 - 8192 ≡ n = omega arith in q)

@@ -133,37 +133,36 @@ deltaedL d b m zero = m
 deltaedL d b m (suc i) =
     deltaInL (deltaedL d b m i) (getD (d .ba) i 0) (counter d i + getD (d .offset) i 0) (counter d (suc i)) b
 
--- snr is snroffset + 960
-abbrev pub steppedL : ℕ → ℕ → ℕ → ℕ
-steppedL mask snr floor = (mask + 960 - snr - floor) / 32 % 256 * 32 + floor
-
-abbrev pub addressL : ℕ → ℕ → ℕ
-addressL psd mask = min ((psd - mask) / 32) 63
+-- where a mask stands among the steps of 32 by which the pointers are entered: the mask less the offset, above the floor,
+-- and the floor below the power of 3072; snr is snroffset + 960
+abbrev pub placeL : ℕ → ℕ → ℕ → ℕ
+placeL mask snr floor = (mask + 960 - (snr + floor)) / 32 % 256 + (160 - (11264 - floor) / 32)
 
 module _ (g : Gains) (l : Leaks) (q : Levels) (d : Deltas) where
+  -- the mask of a band when all segments are passed
   abbrev pub maskL : List ℕ → ℕ → ℕ → ℕ → ℕ
-  maskL bnd first last b =
-      steppedL (deltaedL d b (maskedL (exciteL bnd g l first last (b - first)) (getD bnd b 0) q b) (d .n)) (q .snr) (q .floor)
+  maskL bnd first last b = deltaedL d b (maskedL (exciteL bnd g l first last (b - first)) (getD bnd b 0) q b) (d .n)
 
-  unfoldable pub masksL : List ℕ → ℕ → ℕ → List ℕ
-  masksL bnd first last = tab (λ b. cond (leb first b && ltb b last) (maskL bnd first last b) 0) 0 50
+  unfoldable pub placesL : List ℕ → ℕ → ℕ → List ℕ
+  placesL bnd first last =
+      tab (λ b. cond (leb first b && ltb b last) (placeL (maskL bnd first last b) (q .snr) (q .floor)) 0) 0 50
 
 -- where a table starts among the pointers
 abbrev pub baseOf : Pointers → ℕ
 baseOf Bap = 0
-baseOf Hebap = 64
+baseOf Hebap = 512
 
--- the pointer of a bin of a band with the mask m
-abbrev pub pointL : List ℕ → ℕ → List ℕ → ℕ → ℕ → ℕ
-pointL table base exp m bin = getD table (base + addressL (psdL (getD exp bin 0)) m) 0
+-- the pointer of a bin of a band, by the band's place in the table and the bin's exponent
+abbrev pub pointL : List ℕ → List ℕ → ℕ → ℕ → ℕ
+pointL table exp place bin = getD table (place + 4 * getD exp bin 0) 0
 
 abbrev pub pointerL : List ℕ → ℕ → List ℕ → List ℕ → ℕ → ℕ
-pointerL table base exp masks bin = pointL table base exp (getD masks (bandOf bin) 0) bin
+pointerL table base exp places bin = pointL table exp (base + getD places (bandOf bin) 0) bin
 
--- the masks of the bands of the bins start .. end - 1
-unfoldable pub masksOf : List ℕ → ℕ → ℕ → Gains → Leaks → Levels → Deltas → List ℕ
-masksOf exp start end g l q d = masksL g l q d (bndpsdsL exp start end) (bandOf start) (bandOf (end - 1) + 1)
+-- the places of the bands of the bins start .. end - 1
+unfoldable pub placesOf : List ℕ → ℕ → ℕ → Gains → Leaks → Levels → Deltas → List ℕ
+placesOf exp start end g l q d = placesL g l q d (bndpsdsL exp start end) (bandOf start) (bandOf (end - 1) + 1)
 
 unfoldable pub allocationL : List ℕ → ℕ → List ℕ → ℕ → ℕ → Gains → Leaks → Levels → Deltas → List ℕ
 allocationL table base exp start end g l q d =
-    tab (λ j. cond (leb start j && ltb j end) (pointerL table base exp (masksOf exp start end g l q d) j) 0) 0 256
+    tab (λ j. cond (leb start j && ltb j end) (pointerL table base exp (placesOf exp start end g l q d) j) 0) 0 256

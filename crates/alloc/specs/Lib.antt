@@ -1,3 +1,4 @@
 pub mod Allocation
 pub mod Levels
 pub mod Premises
+pub mod Shares

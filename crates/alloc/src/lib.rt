@@ -5,7 +5,7 @@
 
 ghost use mathlib.Core.Path.{_≡_};
 ghost use mathlib.Core.Bool.{cond};
-ghost use Prim.Native.Nat.{ℕ, _+_, _-_, _*_, _/_, _<_, _≤_, max, min};
+ghost use Prim.Native.Nat.{ℕ, _+_, _-_, _*_, _/_, _%_, _<_, _≤_, max, min};
 ghost use lib.Dec.{ltb};
 ghost use lib.IntN.{pos, negsuc};
 ghost use lib.ListN.{length, getD};
@@ -13,8 +13,9 @@ ghost use lib.Signed.{_≤ℤ_};
 ghost use Rattle.tables.specs.BitAllocation.{latab as laTab, bndend, masktab as maskTab, hth as hthTab};
 ghost use Rattle.tables.specs.Bands.{bandOf, startOf, endOf, BinBand};
 ghost use Rattle.alloc.specs.Allocation.{lfeLast, paramsOf, leakOf, fastOf, slowOf, allocation};
-ghost use Rattle.alloc.specs.Levels.{psdL, LogSum, sumL, bndpsdsL, lowcompL, nextLowL, nextLeakL, decayFromL, beginL, exciteOfL, NextL, hearL, maskedL, deltaL, deltaInL, deltaedL, steppedL, addressL, masksL, pointL, pointerL, allocationL, baseOf, gainsOf, leaksOf, levelOf, levelsOf};
-ghost use Rattle.alloc.specs.Premises.{Exponents, Lent, Written, Tuned, Channelled, Levelled, Leaking};
+ghost use Rattle.alloc.specs.Levels.{psdL, LogSum, sumL, bndpsdsL, lowcompL, nextLowL, decayFromL, beginL, NextL, exciteL, hearL, maskedL, deltaL, deltaedL, placeL, placesL, pointL, pointerL, allocationL, baseOf, gainsOf, leaksOf, levelOf, levelsOf};
+ghost use Rattle.alloc.specs.Premises.{Exponents, Lent, Written, Tuned, Channelled, Levelled, Leaking, Excites, Pointed};
+ghost use Rattle.alloc.specs.Shares.{sharesOf};
 
 // The parameters, in the units of the tables.
 pub struct Params {
@@ -102,6 +103,12 @@ fn index(x: u8) -> usize
     x as usize
 }
 
+fn index32(x: u32) -> usize
+    ensures { λ r. ⌜ r ≡ x ⌝ }
+{
+    x as usize
+}
+
 // What is left of a when b is taken away, or 0.
 fn less(a: u32, b: u32) -> u32
     ensures { λ r. ⌜ r ≡ a - b ⌝ }
@@ -127,7 +134,7 @@ fn sooner(a: usize, b: usize) -> usize
     if a < b { a } else { b }
 }
 
-// Log addition at an address that stops at 255.
+// Log addition at an address that stops at 255, where the table has 0.
 fn log_at(latab: &[u8; 256], h: u32) -> u32
     requires { ⌜ now latab ≡ laTab ⌝ }
     ensures { λ r. ⌜ (r ≡ getD laTab (min h 255) 0) × (r ≤ 64) ⌝ }
@@ -136,7 +143,7 @@ fn log_at(latab: &[u8; 256], h: u32) -> u32
         let i = h as usize;
         wide(latab[i])
     } else {
-        wide(latab[255])
+        0
     }
 }
 
@@ -252,17 +259,11 @@ fn lfe_last(last: usize, b: usize) -> bool
     last == 7 && b == 6
 }
 
-// lowcomp at a band, from lowcomp before it.
-fn next_low(bnd: &[u32; 50], first: usize, last: usize, low: u32, b: usize) -> u32
-    requires { ⌜ ((k : ℕ) → getD (now bnd) k 0 < 65536) ⌝ }
-    ensures { λ r. ⌜ r ≡ nextLowL (now (bnd .entry)) first last low b ⌝ }
+// lowcomp at a band below 22, from lowcomp before it, where the range starts at band 0.
+fn next_low(bnd: &[u32; 50], last: usize, low: u32, b: usize) -> u32
+    requires { ⌜ (b < 22) × ((k : ℕ) → getD (now bnd) k 0 < 32768) ⌝ }
+    ensures { λ r. ⌜ r ≡ nextLowL (now (bnd .entry)) 0 last low b ⌝ }
 {
-    if first != 0 {
-        return 0;
-    }
-    if 22 <= b {
-        return 0;
-    }
     if lfe_last(last, b) {
         return low;
     }
@@ -271,20 +272,16 @@ fn next_low(bnd: &[u32; 50], first: usize, last: usize, low: u32, b: usize) -> u
     calc_lowcomp(low, p, q, b)
 }
 
-// A leak at a band, from the leak before it.
-fn next_leak(begin: usize, b: usize, leak: u32, decay: u32, p: u32, gain: u32) -> u32
-    ensures { λ r. ⌜ r ≡ nextLeakL begin b leak decay p gain ⌝ }
+// A leak that decays, or starts anew from a power that is above it.
+fn decayed(leak: u32, decay: u32, p: u32, gain: u32) -> u32
+    ensures { λ r. ⌜ r ≡ max (leak - decay) (p - gain) ⌝ }
 {
-    if b < begin {
-        less(p, gain)
-    } else {
-        larger(less(leak, decay), less(p, gain))
-    }
+    larger(less(leak, decay), less(p, gain))
 }
 
 // The band from which the leaks decay, where the range starts at band 0.
 fn decay_from(bnd: &[u32; 50], last: usize) -> usize
-    ensures { λ r. ⌜ r ≡ decayFromL (now (bnd .entry)) last 5 2 ⌝ }
+    ensures { λ r. ⌜ (r ≡ decayFromL (now (bnd .entry)) last 5 2) × (r ≤ 7) ⌝ }
 {
     let mut b = 2;
     while b < 7 {
@@ -301,42 +298,125 @@ fn decay_from(bnd: &[u32; 50], last: usize) -> usize
     b
 }
 
-fn begin_of(bnd: &[u32; 50], first: usize, last: usize) -> usize
-    ensures { λ r. ⌜ r ≡ beginL (now (bnd .entry)) first last ⌝ }
+// The leaks and lowcomp, one band on, before the leaks decay.
+fn pass_rising(bnd: &[u32; 50], g: Gains, s: Passed, last: usize, b: usize) -> Passed
+    requires { ⌜ (b < 22) × ((k : ℕ) → getD (now bnd) k 0 < 32768) ⌝ }
+    ensures { λ r. ⌜ ((begin : ℕ) → b < begin → NextL (now (bnd .entry)) g s 0 last begin b r) ⌝ }
 {
-    if first == 0 {
-        decay_from(bnd, last)
-    } else {
-        first
+    let p = bnd[b];
+    Passed {
+        fast: less(p, g.fgain),
+        slow: less(p, g.sgain),
+        low: next_low(bnd, last, s.low, b),
     }
 }
 
-// The leaks and lowcomp, one band on.
-fn pass(
+// The same where the leaks decay, below band 22.
+fn pass_low(bnd: &[u32; 50], g: Gains, s: Passed, last: usize, b: usize) -> Passed
+    requires { ⌜ (b < 22) × ((k : ℕ) → getD (now bnd) k 0 < 32768) ⌝ }
+    ensures { λ r. ⌜ ((begin : ℕ) → begin ≤ b → NextL (now (bnd .entry)) g s 0 last begin b r) ⌝ }
+{
+    let p = bnd[b];
+    Passed {
+        fast: decayed(s.fast, g.fdecay, p, g.fgain),
+        slow: decayed(s.slow, g.sdecay, p, g.sgain),
+        low: next_low(bnd, last, s.low, b),
+    }
+}
+
+// The same where there is no lowcomp: from band 22 on, or in a range that does not start at band 0.
+fn pass_high(bnd: &[u32; 50], g: Gains, s: Passed, b: usize) -> Passed
+    requires { ⌜ b < 50 ⌝ }
+    ensures { λ r. ⌜ ((first last begin : ℕ) → begin ≤ b → (first ≡ 0 → 22 ≤ b) → NextL (now (bnd .entry)) g s first last begin b r) ⌝ }
+{
+    let p = bnd[b];
+    Passed {
+        fast: decayed(s.fast, g.fdecay, p, g.fgain),
+        slow: decayed(s.slow, g.sdecay, p, g.sgain),
+        low: 0,
+    }
+}
+
+// The excitation of the bands 0 .. to - 1, before the leaks decay.
+fn rise(bnd: &[u32; 50], out: &mut [u32; 50], g: Gains, s: Passed, last: usize, to: usize) -> Passed
+    requires { ⌜ (to ≤ beginL (now bnd) 0 last) × (to ≤ 22) × ((k : ℕ) → getD (now bnd) k 0 < 32768) × (length (now out) ≡ 50) ⌝ }
+    ensures { λ r. ⌜ Excites (now (bnd .entry)) g 0 last 0 to s r (now (out .entry)) (now (out .exit)) ⌝ }
+{
+    let mut t = s;
+    let mut b = 0;
+    while b < to {
+        t = pass_rising(bnd, g, t, last, b);
+        out[b] = less(t.fast, t.low);
+        b += 1;
+    }
+    t
+}
+
+// The excitation of the bands from .. to - 1, where the leaks decay, below band 22.
+fn middle(
     bnd: &[u32; 50],
+    out: &mut [u32; 50],
+    g: Gains,
+    s: Passed,
+    last: usize,
+    from: usize,
+    to: usize,
+) -> Passed
+    requires { ⌜ (from ≤ to) × (from < to → beginL (now bnd) 0 last ≤ from) × (to ≤ 22) × ((k : ℕ) → getD (now bnd) k 0 < 32768) × (length (now out) ≡ 50) ⌝ }
+    ensures { λ r. ⌜ Excites (now (bnd .entry)) g 0 last from to s r (now (out .entry)) (now (out .exit)) ⌝ }
+{
+    let mut t = s;
+    let mut b = from;
+    while b < to {
+        t = pass_low(bnd, g, t, last, b);
+        out[b] = larger(less(t.fast, t.low), t.slow);
+        b += 1;
+    }
+    t
+}
+
+// The excitation of the bands from .. last - 1, where there is no lowcomp.
+fn high(
+    bnd: &[u32; 50],
+    out: &mut [u32; 50],
     g: Gains,
     s: Passed,
     first: usize,
     last: usize,
-    begin: usize,
-    b: usize,
+    from: usize,
 ) -> Passed
-    requires { ⌜ (b < 50) × ((k : ℕ) → getD (now bnd) k 0 < 65536) ⌝ }
-    ensures { λ r. ⌜ NextL (now (bnd .entry)) g s first last begin b r ⌝ }
+    requires { ⌜ (from ≤ last) × (last ≤ 50) × (from < last → beginL (now bnd) first last ≤ from) × (from < last → first ≡ 0 → 22 ≤ from) × (length (now out) ≡ 50) ⌝ }
+    ensures { λ r. ⌜ Excites (now (bnd .entry)) g first last from last s r (now (out .entry)) (now (out .exit)) ⌝ }
 {
-    let p = bnd[b];
-    Passed {
-        fast: next_leak(begin, b, s.fast, g.fdecay, p, g.fgain),
-        slow: next_leak(begin, b, s.slow, g.sdecay, p, g.sgain),
-        low: next_low(bnd, first, last, s.low, b),
+    let mut t = s;
+    let mut b = from;
+    while b < last {
+        t = pass_high(bnd, g, t, b);
+        out[b] = larger(t.fast, t.slow);
+        b += 1;
     }
+    t
 }
 
-fn excited(s: Passed, begin: usize, b: usize) -> u32
-    ensures { λ r. ⌜ r ≡ exciteOfL (s .fast) (s .slow) (s .low) begin b ⌝ }
+// The excitation of the bands first .. last - 1.
+fn excite(bnd: &[u32; 50], out: &mut [u32; 50], g: Gains, l: Leaks, first: usize, last: usize)
+    requires { ⌜ (first ≤ last) × (last ≤ 50) × ((k : ℕ) → getD (now bnd) k 0 < 32768) × (length (now out) ≡ 50) ⌝ }
+    ensures { λ r. ⌜ Written (λ b. exciteL (now (bnd .entry)) g l first last (b - first)) first last (now (out .entry)) (now (out .exit)) ⌝ }
 {
-    let low = less(s.fast, s.low);
-    if b < begin { low } else { larger(low, s.slow) }
+    let s = Passed {
+        fast: l.fast,
+        slow: l.slow,
+        low: 0,
+    };
+    if first != 0 {
+        high(bnd, out, g, s, first, last, first);
+        return;
+    }
+    let begin = sooner(decay_from(bnd, last), last);
+    let mid = sooner(22, last);
+    let low = rise(bnd, out, g, s, last, begin);
+    let t = middle(bnd, out, g, low, last, begin, mid);
+    high(bnd, out, g, t, 0, last, mid);
 }
 
 fn hearing_at(hth: &[u16; 150], fscod: usize, b: usize) -> u32
@@ -360,58 +440,89 @@ fn moved(m: u32, ba: u8) -> u32
     }
 }
 
-// The mask of band k after one segment, of the bands from .. to - 1.
-fn moved_in(m: u32, ba: u8, from: usize, to: usize, k: usize) -> u32
-    requires { ⌜ m < 16777216 ⌝ }
-    ensures { λ r. ⌜ (r ≡ deltaInL m ba from to k) × (r ≤ m + 32768) ⌝ }
+// The mask of a band before the segments, from its excitation and its power.
+fn masked(hth: &[u16; 150], e: u32, p: u32, q: Levels, b: usize) -> u32
+    requires { ⌜ (now hth ≡ hthTab) × (b < 50) × (e < 32768) × Levelled q ⌝ }
+    ensures { λ r. ⌜ (r ≡ maskedL e p q b) × (r < 65536) ⌝ }
 {
-    if from <= k {
-        if k < to {
-            return moved(m, ba);
-        }
-    }
-    m
+    larger(e + less(q.knee, p) / 4, hearing_at(hth, q.fscod, b))
 }
 
-// The mask of band k after all segments. The counter `band` runs on from one segment to the next.
-fn shifted(d: Deltas, k: usize, m: u32) -> u32
-    requires { ⌜ (d .n ≤ 8) × (m < 65536) ⌝ }
-    ensures { λ r. ⌜ (r ≡ deltaedL d k m (d .n)) × (r < 16777216) ⌝ }
+// The masks of the bands first .. last - 1, in place of their excitation.
+fn mask_bands(
+    hth: &[u16; 150],
+    bnd: &[u32; 50],
+    out: &mut [u32; 50],
+    q: Levels,
+    first: usize,
+    last: usize,
+)
+    requires { ⌜ (now hth ≡ hthTab) × (first ≤ last) × (last ≤ 50) × Levelled q × ((k : ℕ) → getD (now out) k 0 < 32768) × (length (now out) ≡ 50) ⌝ }
+    ensures { λ r. ⌜ Written (λ b. maskedL (getD (now (out .entry)) b 0) (getD (now (bnd .entry)) b 0) q b) first last (now (out .entry)) (now (out .exit)) × ((k : ℕ) → getD (now (out .exit)) k 0 < 65536) ⌝ }
+{
+    let mut b = first;
+    while b < last {
+        let e = out[b];
+        let p = bnd[b];
+        out[b] = masked(hth, e, p, q, b);
+        b += 1;
+    }
+}
+
+// The masks of the bands from .. to - 1, moved by a segment's step.
+fn move_bands(out: &mut [u32; 50], ba: u8, from: usize, to: usize)
+    requires { ⌜ (to ≤ 50) × ((k : ℕ) → getD (now out) k 0 < 16777216) × (length (now out) ≡ 50) ⌝ }
+    ensures { λ r. ⌜ Written (λ b. deltaL (getD (now (out .entry)) b 0) ba) from to (now (out .entry)) (now (out .exit)) × ((k : ℕ) → getD (now (out .exit)) k 0 ≤ getD (now (out .entry)) k 0 + 32768) ⌝ }
+{
+    let mut b = from;
+    while b < to {
+        let m = out[b];
+        out[b] = moved(m, ba);
+        b += 1;
+    }
+}
+
+// The masks of the bands first .. last - 1 after all segments. The counter `band` runs on from one segment to the next.
+fn shift(out: &mut [u32; 50], d: Deltas, first: usize, last: usize)
+    requires { ⌜ (last ≤ 50) × (d .n ≤ 8) × ((k : ℕ) → getD (now out) k 0 < 65536) × (length (now out) ≡ 50) ⌝ }
+    ensures { λ r. ⌜ Written (λ b. deltaedL d b (getD (now (out .entry)) b 0) (d .n)) first last (now (out .entry)) (now (out .exit)) × ((k : ℕ) → getD (now (out .exit)) k 0 < 16777216) ⌝ }
 {
     let n = d.n;
-    let mut r = m;
     let mut band = 0usize;
     let mut i = 0usize;
     while i < n {
         let from = band + index(d.offset[i]);
         band = from + index(d.len[i]);
-        r = moved_in(r, d.ba[i], from, band, k);
+        move_bands(out, d.ba[i], later(first, from), sooner(last, band));
         i += 1;
     }
-    r
 }
 
-// The mask less the offset, in steps of 32 above the floor.
-fn stepped(mask: u32, snr: u32, floor: u32) -> u32
-    requires { ⌜ (mask < 16777216) × (floor < 65536) ⌝ }
-    ensures { λ r. ⌜ r ≡ steppedL mask snr floor ⌝ }
+// The place of a mask, with `down` taken away, in steps of 32 from `base` on.
+fn place(mask: u32, down: u32, base: u32) -> u32
+    requires { ⌜ (mask < 16777216) × (base ≤ 160) ⌝ }
+    ensures { λ r. ⌜ (r ≡ (mask + 960 - down) / 32 % 256 + base) × (r ≤ 415) ⌝ }
 {
-    let m = less(less(mask + 960, snr), floor);
-    m / 32 % 256 * 32 + floor
+    less(mask + 960, down) / 32 % 256 + base
 }
 
-// The mask of a band, from its excitation and its power.
-fn finish(hth: &[u16; 150], e: u32, p: u32, q: Levels, d: Deltas, b: usize) -> u32
-    requires { ⌜ (now hth ≡ hthTab) × (b < 50) × (e < 32768) × (d .n ≤ 8) × Levelled q ⌝ }
-    ensures { λ r. ⌜ r ≡ steppedL (deltaedL d b (maskedL e p q b) (d .n)) (q .snr) (q .floor) ⌝ }
+// The places of the bands first .. last - 1, in place of their masks.
+fn place_bands(out: &mut [u32; 50], q: Levels, first: usize, last: usize)
+    requires { ⌜ (first ≤ last) × (last ≤ 50) × Levelled q × ((k : ℕ) → getD (now out) k 0 < 16777216) × (length (now out) ≡ 50) ⌝ }
+    ensures { λ r. ⌜ Written (λ b. placeL (getD (now (out .entry)) b 0) (q .snr) (q .floor)) first last (now (out .entry)) (now (out .exit)) ⌝ }
 {
-    let m = larger(e + less(q.knee, p) / 4, hearing_at(hth, q.fscod, b));
-    let s = shifted(d, b, m);
-    stepped(s, q.snr, q.floor)
+    let down = q.snr + q.floor;
+    let base = 160 - (11264 - q.floor) / 32;
+    let mut b = first;
+    while b < last {
+        let m = out[b];
+        out[b] = place(m, down, base);
+        b += 1;
+    }
 }
 
-// The masks of the bands first .. last - 1.
-fn masks(
+// The places of the bands first .. last - 1 among the pointers.
+fn places(
     hth: &[u16; 150],
     bnd: &[u32; 50],
     g: Gains,
@@ -423,71 +534,141 @@ fn masks(
 ) -> [u32; 50]
     requires { ⌜ (now hth ≡ hthTab) × (first ≤ last) × (last ≤ 50) × ((k : ℕ) → getD (now bnd) k 0 < 32768) ⌝ }
     requires { ⌜ (Leaking l) × (d .n ≤ 8) × Levelled q ⌝ }
-    ensures { λ r. ⌜ r ≡ masksL g l q d (now (bnd .entry)) first last ⌝ }
+    ensures { λ r. ⌜ r ≡ placesL g l q d (now (bnd .entry)) first last ⌝ }
 {
-    let begin = begin_of(bnd, first, last);
     let mut out = [0u32; 50];
-    let mut s = Passed {
-        fast: l.fast,
-        slow: l.slow,
-        low: 0,
-    };
-    let mut b = first;
-    while b < last {
-        s = pass(bnd, g, s, first, last, begin, b);
-        let e = excited(s, begin, b);
-        let p = bnd[b];
-        out[b] = finish(hth, e, p, q, d, b);
-        b += 1;
-    }
+    excite(bnd, &mut out, g, l, first, last);
+    mask_bands(hth, bnd, &mut out, q, first, last);
+    shift(&mut out, d, first, last);
+    place_bands(&mut out, q, first, last);
     out
 }
 
-fn address(psd: u32, mask: u32) -> usize
-    ensures { λ r. ⌜ (r ≡ addressL psd mask) × (r < 64) ⌝ }
+// The pointer of a bin with the exponent e in a band with its place in the table.
+fn pointer(points: &[u8; 1024], place: usize, e: u8) -> u8
+    requires { ⌜ (place ≤ 927) × (e ≤ 24) ⌝ }
+    ensures { λ r. ⌜ r ≡ getD (now (points .entry)) (place + 4 * e) 0 ⌝ }
 {
-    let a = less(psd, mask) / 32;
-    if a < 63 { a as usize } else { 63 }
+    let t = place + 4 * index(e);
+    points[t]
 }
 
-// The pointers of the bins lo .. hi - 1 of a band with the mask m, through the table that starts at `base`.
-fn point(points: &[u8; 128], exps: &[u8], out: &mut [u8], lo: usize, hi: usize, base: usize, m: u32)
-    requires { ⌜ (lo ≤ hi) × (hi ≤ 253) × (base ≤ 64) × Exponents (now exps) lo hi × (length (now out) ≡ 256) ⌝ }
-    ensures { λ r. ⌜ Written (pointL (now (points .entry)) base (now (exps .entry)) m) lo hi (now (out .entry)) (now (out .exit)) ⌝ }
+// The pointers of the bins lo .. hi - 1 of a band with its place in the table, and the sum of their shares.
+fn point(
+    points: &[u8; 1024],
+    shares: &[u64; 256],
+    exps: &[u8],
+    out: &mut [u8],
+    lo: usize,
+    hi: usize,
+    place: usize,
+) -> u64
+    requires { ⌜ (lo ≤ hi) × (hi ≤ 253) × (place ≤ 927) × Exponents (now exps) lo hi × (length (now out) ≡ 256) ⌝ }
+    requires { ⌜ ((k : ℕ) → getD (now shares) k 0 ≤ 281474976710656) ⌝ }
+    ensures { λ r. ⌜ Pointed (now (shares .entry)) (pointL (now (points .entry)) (now (exps .entry)) place) lo hi (now (out .entry)) (now (out .exit)) r ⌝ }
 {
+    let mut sum = 0u64;
     let mut j = lo;
     while j < hi {
-        let a = base + address(power(exps[j]), m);
-        out[j] = points[a];
+        let b = pointer(points, place, exps[j]);
+        out[j] = b;
+        sum += shares[index(b)];
         j += 1;
     }
+    sum
 }
 
-// The pointers of the bins start .. end - 1, band by band from `first` on.
+// The same of the bins from .. to - 1 below 28, each of which is a band.
+fn point_singles(
+    points: &[u8; 1024],
+    shares: &[u64; 256],
+    exps: &[u8],
+    place: &[u32; 50],
+    out: &mut [u8],
+    from: usize,
+    to: usize,
+    base: usize,
+) -> u64
+    requires { ⌜ (from ≤ to) × (to ≤ max from 28) × (base ≤ 512) × Exponents (now exps) from to × (length (now out) ≡ 256) ⌝ }
+    requires { ⌜ ((k : ℕ) → getD (now place) k 0 ≤ 415) × ((k : ℕ) → getD (now shares) k 0 ≤ 281474976710656) ⌝ }
+    ensures { λ r. ⌜ Pointed (now (shares .entry)) (pointerL (now (points .entry)) base (now (exps .entry)) (now (place .entry))) from to (now (out .entry)) (now (out .exit)) r ⌝ }
+{
+    let mut sum = 0u64;
+    let mut j = from;
+    while j < to {
+        let b = pointer(points, base + index32(place[j]), exps[j]);
+        out[j] = b;
+        sum += shares[index(b)];
+        j += 1;
+    }
+    sum
+}
+
+// The same of the bins start .. end - 1, band by band from `first` on.
 fn point_bands(
-    points: &[u8; 128],
+    points: &[u8; 1024],
+    shares: &[u64; 256],
     ends: &[u8; 50],
     exps: &[u8],
-    mask: &[u32; 50],
+    place: &[u32; 50],
     out: &mut [u8],
     start: usize,
     end: usize,
     base: usize,
     first: usize,
-)
-    requires { ⌜ (now ends ≡ bndend) × (start < end) × (end ≤ 253) × (base ≤ 64) × (first ≡ bandOf start) ⌝ }
+) -> u64
+    requires { ⌜ (now ends ≡ bndend) × (start ≤ end) × (end ≤ 253) × (base ≤ 512) × (start < end → first ≡ bandOf start) ⌝ }
     requires { ⌜ (Exponents (now exps) start end) × (length (now out) ≡ 256) ⌝ }
-    ensures { λ r. ⌜ Written (pointerL (now (points .entry)) base (now (exps .entry)) (now (mask .entry))) start end (now (out .entry)) (now (out .exit)) ⌝ }
+    requires { ⌜ ((k : ℕ) → getD (now place) k 0 ≤ 415) × ((k : ℕ) → getD (now shares) k 0 ≤ 281474976710656) ⌝ }
+    ensures { λ r. ⌜ Pointed (now (shares .entry)) (pointerL (now (points .entry)) base (now (exps .entry)) (now (place .entry))) start end (now (out .entry)) (now (out .exit)) r ⌝ }
 {
+    let mut sum = 0u64;
     let mut j = start;
     let mut k = first;
     while j < end {
         let hi = sooner(end, end_of(ends, k));
-        let m = mask[k];
-        point(points, exps, out, j, hi, base, m);
+        let p = base + index32(place[k]);
+        sum += point(points, shares, exps, out, j, hi, p);
         j = hi;
         k += 1;
     }
+    sum
+}
+
+// The same of the bins start .. end - 1, of which the first is in the band `first`: those below 28, and the others.
+fn point_all(
+    points: &[u8; 1024],
+    shares: &[u64; 256],
+    ends: &[u8; 50],
+    exps: &[u8],
+    place: &[u32; 50],
+    out: &mut [u8],
+    start: usize,
+    end: usize,
+    base: usize,
+    first: usize,
+) -> u64
+    requires { ⌜ (now ends ≡ bndend) × (start ≤ end) × (end ≤ 253) × (base ≤ 512) × (first ≡ bandOf start) ⌝ }
+    requires { ⌜ (Exponents (now exps) start end) × (length (now out) ≡ 256) ⌝ }
+    requires { ⌜ ((k : ℕ) → getD (now place) k 0 ≤ 415) × ((k : ℕ) → getD (now shares) k 0 ≤ 281474976710656) ⌝ }
+    ensures { λ r. ⌜ Pointed (now (shares .entry)) (pointerL (now (points .entry)) base (now (exps .entry)) (now (place .entry))) start end (now (out .entry)) (now (out .exit)) r ⌝ }
+{
+    let single = sooner(end, 28);
+    let mid = later(start, single);
+    let a = point_singles(points, shares, exps, place, out, start, mid, base);
+    let b = point_bands(
+        points,
+        shares,
+        ends,
+        exps,
+        place,
+        out,
+        mid,
+        end,
+        base,
+        later(first, single),
+    );
+    a + b
 }
 
 // Zeros at from .. to - 1.
@@ -508,7 +689,8 @@ fn allocate_some(
     masktab: &[u8; 253],
     ends: &[u8; 50],
     hth: &[u16; 150],
-    points: &[u8; 128],
+    points: &[u8; 1024],
+    shares: &[u64; 256],
     exps: &[u8],
     out: &mut [u8],
     start: usize,
@@ -518,25 +700,38 @@ fn allocate_some(
     q: Levels,
     d: Deltas,
     base: usize,
-)
+) -> u64
     requires { ⌜ Lent (now latab) (now masktab) (now ends) (now hth) (now points) ⌝ }
     requires { ⌜ (start < end) × (end ≤ 253) × Exponents (now exps) start end × (length (now out) ≡ 256) ⌝ }
-    requires { ⌜ (Leaking l) × (d .n ≤ 8) × Levelled q × (base ≤ 64) ⌝ }
+    requires { ⌜ (Leaking l) × (d .n ≤ 8) × Levelled q × (base ≤ 512) ⌝ }
+    requires { ⌜ ((k : ℕ) → getD (now shares) k 0 ≤ 281474976710656) ⌝ }
     ensures { λ r. ⌜ now (out .exit) ≡ allocationL (now (points .entry)) base (now (exps .entry)) start end g l q d ⌝ }
+    ensures { λ r. ⌜ r ≡ sharesOf (now (shares .entry)) (allocationL (now (points .entry)) base (now (exps .entry)) start end g l q d) start (end - start) ⌝ }
 {
     let first = band_of(masktab, start);
     let last = band_of(masktab, end - 1) + 1;
     let bnd = bands(latab, ends, exps, start, end, first, last);
-    let mask = masks(hth, &bnd, g, l, q, d, first, last);
+    let place = places(hth, &bnd, g, l, q, d, first, last);
     clear(out, 0, start);
-    point_bands(points, ends, exps, &mask, out, start, end, base, first);
     clear(out, end, 256);
+    point_all(
+        points,
+        shares,
+        ends,
+        exps,
+        &place,
+        out,
+        start,
+        end,
+        base,
+        first,
+    )
 }
 
 // A floor as a level.
 fn level(x: i32) -> u32
     requires { ⌜ (negsuc 2047 ≤ℤ x) × (x ≤ℤ pos 752) ⌝ }
-    ensures { λ r. ⌜ (r ≡ levelOf x) × (r < 65536) ⌝ }
+    ensures { λ r. ⌜ (r ≡ levelOf x) × (6144 ≤ r) × (r ≤ 11264) ⌝ }
 {
     (x + 8192) as u32
 }
@@ -582,11 +777,11 @@ fn leaks_of(l: Leak) -> Leaks
 }
 
 fn base_of(kind: Pointers) -> usize
-    ensures { λ r. ⌜ (r ≡ baseOf kind) × (r ≤ 64) ⌝ }
+    ensures { λ r. ⌜ (r ≡ baseOf kind) × (r ≤ 512) ⌝ }
 {
     match kind {
         Pointers::Bap => 0,
-        Pointers::Hebap => 64,
+        Pointers::Hebap => 512,
     }
 }
 
@@ -618,13 +813,15 @@ pub fn leak_of(cplfleak: u8, cplsleak: u8) -> Leak
     Leak::Pair(wide(cplfleak) * 256 + 768, wide(cplsleak) * 256 + 768)
 }
 
-// The 256 pointers of a channel, into `out`: those of the bins start .. end - 1, and 0 elsewhere.
+// The 256 pointers of a channel, into `out`: those of the bins start .. end - 1, and 0 elsewhere. Gives the sum of the shares
+// of these bins' pointers.
 pub fn allocate(
     latab: &[u8; 256],
     masktab: &[u8; 253],
     ends: &[u8; 50],
     hth: &[u16; 150],
-    points: &[u8; 128],
+    points: &[u8; 1024],
+    shares: &[u64; 256],
     exps: &[u8],
     out: &mut [u8],
     c: Channel,
@@ -632,17 +829,19 @@ pub fn allocate(
     l: Leak,
     d: Deltas,
     kind: Pointers,
-)
+) -> u64
     requires { ⌜ Lent (now latab) (now masktab) (now ends) (now hth) (now points) ⌝ }
     requires { ⌜ (Exponents (now exps) (c .start) (c .end)) × (length (now out) ≡ 256) ⌝ }
     requires { ⌜ (Channelled c l d) × Tuned p ⌝ }
+    requires { ⌜ ((k : ℕ) → getD (now shares) k 0 ≤ 281474976710656) ⌝ }
     ensures { λ r. ⌜ now (out .exit) ≡ allocation kind (now (exps .entry)) c p l d ⌝ }
+    ensures { λ r. ⌜ r ≡ sharesOf (now (shares .entry)) (allocation kind (now (exps .entry)) c p l d) (c .start) (c .end - c .start) ⌝ }
 {
     let start = c.start;
     let end = c.end;
     if end <= start {
         clear(out, 0, 256);
-        return;
+        return 0;
     }
     let g = gains_of(c.fgain, p);
     let q = levels_of(p, c.csnroffst, c.fsnroffst);
@@ -654,6 +853,7 @@ pub fn allocate(
         ends,
         hth,
         points,
+        shares,
         exps,
         out,
         start,
@@ -663,5 +863,5 @@ pub fn allocate(
         q,
         d,
         base,
-    );
+    )
 }

@@ -61,6 +61,7 @@ pub extern "C" fn alloc_by_codes(
     let ends = tables::band_end();
     let hth = tables::hearing();
     let points = tables::pointers();
+    let shares = [0u64; 256];
     let c = alloc::Channel {
         start: start,
         end: end,
@@ -86,6 +87,7 @@ pub extern "C" fn alloc_by_codes(
         &ends,
         &hth,
         &points,
+        &shares,
         exps,
         out,
         c,

@@ -1,15 +1,17 @@
 -- Laws of the allocation of a block: the parts that go into it, and slot by slot. Assumes nothing.
 use mathlib.Core.Path.{_≡_, refl, ap, sym, _∙_}
 use mathlib.Core.Bool.{Bool, true, false, _&&_, _||_, not, cond}
-use mathlib.Core.List.{List, [], _∷_, _++_}
-use Prim.Native.Nat.{ℕ, zero, suc, _+_, _-_, _*_, _≤_, _<_}
+use mathlib.Core.List.{List, _++_}
+use mathlib.Core.Logic.{by-cases}
+use Prim.Native.Nat.{ℕ, zero, suc, _+_, _-_, _*_, _≤_, _<_, min}
 use native.Mathlib.Omega.{arith}
-use native.Mathlib.Decide.{ℕ-discrete}
-use lib.Dec.{eqb}
-use lib.ListN.{length, getD, take, drop, set, replicate, length-set, length-append, length-drop, List·getD-append}
-use lib.Seq.{ext-getD, length-take-le, getD-take, getD-drop, getD-set-same, getD-set-other}
-use Rattle.alloc.specs.Allocation.{allocation}
+use native.Mathlib.Decide.{ℕ-discrete, decLt}
+use lib.Dec.{eqb, ltb}
+use lib.ListN.{length, getD, take, drop, replicate, length-append, length-drop, List·getD-append}
+use lib.Seq.{ext-getD, length-take-le, getD-take, getD-drop, getD-append-add}
+use Rattle.alloc.specs.Allocation.{allocation, deltaed}
 use Rattle.alloc.specs.Premises.{Exponents}
+use borrow.Author.Tests.{ltb-true}
 use Rattle.alloc.specs.declared.Params.{Params}
 use Rattle.alloc.specs.declared.Channel.{Channel}
 use Rattle.alloc.specs.declared.Deltas.{Deltas}
@@ -17,7 +19,7 @@ use Rattle.alloc.specs.declared.Leak.{Leak}
 use Rattle.alloc.specs.declared.Pointers.{Pointers}
 use Rattle.slots.specs.Held.{Held}
 use Rattle.slots.specs.Slots.{requestedOf}
-use Rattle.allocation.specs.State.{segmentsOf, offsetsZero, silentOf, channelOf, leakFor, kindOf, expsIn, pointedOf, pointersOf, pointSlots, paramsFor, allocated, bySent, allocatedOf}
+use Rattle.allocation.specs.State.{eightOf, segmentsBy, segmentsOf, Alike, offsetsZero, silentOf, channelOf, leakFor, kindOf, expsIn, pointedOf, pointersOf, pointSlot, pointSlots, paramsFor, allocated, bySent, allocatedOf}
 use Rattle.allocation.specs.Coded.{silenced}
 use Rattle.slots.specs.declared.Shape.{Shape}
 use Rattle.allocation.specs.declared.AllocState.{AllocState}
@@ -26,78 +28,90 @@ use Rattle.allocation.specs.declared.Codes.{Codes}
 use Rattle.allocation.specs.declared.Parameters.{Parameters}
 use Rattle.allocation.specs.declared.Parameters.the-variants.{NeverSent, Sent}
 
--- the exponents of a slot, i of them copied
-pub record Copied (bins : List ℕ) (base : ℕ) (out : List ℕ) (i : ℕ) : Type 0 where
-  pub size : length out ≡ 256
-  pub within : i ≤ 256
-  pub same : (k : ℕ) → k < i → getD out k 0 ≡ getD bins (base + k) 0
-
-pub copied-none : (bins : List ℕ) (base : ℕ) (out : List ℕ) → length out ≡ 256 → Copied bins base out 0
-copied-none bins base out e = record { size = e; within = omega arith; same = λ k h. absurd (let z : ⊥ = omega arith in z) }
-
-module _ (bins : List ℕ) (base : ℕ) (out : List ℕ) (i : ℕ) (so : Copied bins base out i) where
-  pub copied-on : i < 256 → (e : ℕ) → e ≡ getD bins (base + i) 0 → Copied bins base (set out i e) (i + 1)
-  copied-on h e c = record { size = length-set out i e ∙ so .size; within = omega arith; same = λ k l. go k l (ℕ-discrete k i) }
-    where
-      go : (k : ℕ) → k < i + 1 → Dec (k ≡ i) → getD (set out i e) k 0 ≡ getD bins (base + k) 0
-      go k l (yes q) = rw (q, getD-set-same out i e 0 (let z : i < length out = omega (arith, so .size) in z)) c
-      go k l (no q) = rw (getD-set-other out i k e 0 q) (so .same k (omega arith))
-
-  pub copied-all : 256 ≤ i → base + 256 ≤ length bins → out ≡ take 256 (drop base bins)
-  copied-all h l =
-      let m : length (drop base bins) ≡ length bins - base = length-drop base bins in
-      let n : length (take 256 (drop base bins)) ≡ 256 = length-take-le 256 (drop base bins) (omega arith) in
-      ext-getD 0 out (take 256 (drop base bins)) (so .size ∙ sym n)
-      (λ k b. let b' : k < 256 = omega (arith, so .size) in so .same k (omega arith) ∙ sym (getD-take 256 (drop base bins) k 0 b' ∙ getD-drop base bins k 0))
-
 -- what allocation asks of them
-pub exps-low : (bins : List ℕ) (slot : ℕ) → Held bins → slot < 7 → (exps : List ℕ) → exps ≡ expsIn bins slot → (lo hi : ℕ) → hi ≤ 253 → Exponents exps lo hi
-exps-low bins slot held h exps e lo hi k =
-    let m : length (drop (256 * slot) bins) ≡ length bins - 256 * slot = length-drop (256 * slot) bins in
+pub exps-low : (exps : List ℕ) (slot : ℕ) → Held exps → slot < 7 → (lo hi : ℕ) → hi ≤ 253 → Exponents (expsIn exps slot) lo hi
+exps-low exps slot held h lo hi k =
+    let m : length (drop (256 * slot) exps) ≡ length exps - 256 * slot = length-drop (256 * slot) exps in
     record {
-      size = rw e (length-take-le 256 (drop (256 * slot) bins) (omega (arith, held .size)));
-      low = λ j a b. rw (e, getD-take 256 (drop (256 * slot) bins) j 0 (let z : j < 256 = omega arith in z), getD-drop (256 * slot) bins j 0) (held .exps (256 * slot + j) (omega arith));
+      size = length-take-le 256 (drop (256 * slot) exps) (omega (arith, held .size));
+      low = λ j a b. rw (getD-take 256 (drop (256 * slot) exps) j 0 (let z : j < 256 = omega arith in z), getD-drop (256 * slot) exps j 0) (held .low (256 * slot + j) (omega arith));
     }
 
--- a slot's pointers put among the bins
-pub part-length : (bins : List ℕ) (slot : ℕ) → Held bins → slot < 7 → length (take (1792 + 256 * slot + 256 - (1792 + 256 * slot)) (drop (1792 + 256 * slot) bins)) ≡ 256
-part-length bins slot held h =
-    let z : 1792 + 256 * slot + 256 - (1792 + 256 * slot) ≡ 256 = omega arith in
-    let m : length (drop (1792 + 256 * slot) bins) ≡ length bins - (1792 + 256 * slot) = length-drop (1792 + 256 * slot) bins in
-    rw z (length-take-le 256 (drop (1792 + 256 * slot) bins) (omega (arith, held .size)))
+-- the part of a list that a slot has
+pub part-width : (slot : ℕ) → 256 * slot + 256 - 256 * slot ≡ 256
+part-width slot = omega arith
 
-pub pointed-is : (bins : List ℕ) (slot : ℕ) (exps ps : List ℕ) (k : Pointers) (c : Channel) (p : Params) (l : Leak) (d : Deltas)
-    → exps ≡ expsIn bins slot → ps ≡ allocation k exps c p l d
-    → take (1792 + 256 * slot) bins ++ (ps ++ drop (1792 + 256 * slot + 256 - (1792 + 256 * slot)) (drop (1792 + 256 * slot) bins))
-    ≡ pointedOf bins slot (allocation k (expsIn bins slot) c p l d)
-unfolding pointedOf
-pointed-is bins slot exps ps k c p l d e q = let z : 1792 + 256 * slot + 256 - (1792 + 256 * slot) ≡ 256 = omega arith in rw (z, q, e)
+pub part-length : (xs : List ℕ) (slot : ℕ) → length xs ≡ 1792 → slot < 7 → length (take 256 (drop (256 * slot) xs)) ≡ 256
+part-length xs slot e h =
+    let m : length (drop (256 * slot) xs) ≡ length xs - 256 * slot = length-drop (256 * slot) xs in
+    length-take-le 256 (drop (256 * slot) xs) (omega arith)
 
-module _ (bins : List ℕ) (held : Held bins) (slot : ℕ) (h : slot < 7) (ps : List ℕ) (n : length ps ≡ 256) where
-  head : length (take (1792 + 256 * slot) bins) ≡ 1792 + 256 * slot
-  head = length-take-le (1792 + 256 * slot) bins (omega (arith, held .size))
+-- as the code lends it
+pub exps-part : (exps : List ℕ) (slot : ℕ) → Held exps → slot < 7 → (lo hi : ℕ) → hi ≤ 253 → Exponents (take (256 * slot + 256 - 256 * slot) (drop (256 * slot) exps)) lo hi
+exps-part exps slot held h lo hi k = rw (part-width slot) (exps-low exps slot held h lo hi k)
 
-  pub pointed-length : length (pointedOf bins slot ps) ≡ 3584
+pub part-sized : (xs : List ℕ) (slot : ℕ) → length xs ≡ 1792 → slot < 7 → length (take (256 * slot + 256 - 256 * slot) (drop (256 * slot) xs)) ≡ 256
+part-sized xs slot e h = rw (part-width slot) (part-length xs slot e h)
+
+-- a slot's pointers put among the others
+module _ (baps : List ℕ) (sized : length baps ≡ 1792) (slot : ℕ) (h : slot < 7) (ps : List ℕ) (n : length ps ≡ 256) where
+  first : length (take (256 * slot) baps) ≡ 256 * slot
+  first = length-take-le (256 * slot) baps (omega arith)
+
+  pub pointed-length : length (pointedOf baps slot ps) ≡ 1792
   unfolding pointedOf
   pointed-length =
-      let a = head in
-      let b = length-append (take (1792 + 256 * slot) bins) (ps ++ drop 256 (drop (1792 + 256 * slot) bins)) in
-      let c = length-append ps (drop 256 (drop (1792 + 256 * slot) bins)) in
-      let d = length-drop 256 (drop (1792 + 256 * slot) bins) in
-      let e = length-drop (1792 + 256 * slot) bins in
-      omega (arith, held .size)
+      let a = first in
+      let b = length-append (take (256 * slot) baps) (ps ++ drop 256 (drop (256 * slot) baps)) in
+      let c = length-append ps (drop 256 (drop (256 * slot) baps)) in
+      let d = length-drop 256 (drop (256 * slot) baps) in
+      let e = length-drop (256 * slot) baps in
+      omega arith
 
-  pub pointed-held : Held (pointedOf bins slot ps)
+  pub pointed-before : (k : ℕ) → k < 256 * slot → getD (pointedOf baps slot ps) k 0 ≡ getD baps k 0
   unfolding pointedOf
-  pointed-held =
-      record {
-        size = pointed-length;
-        exps = λ k l. rw (List·getD-append (take (1792 + 256 * slot) bins) (ps ++ drop 256 (drop (1792 + 256 * slot) bins)) 0 k (let z : k < length (take (1792 + 256 * slot) bins) = omega (arith, head) in z), getD-take (1792 + 256 * slot) bins k 0 (let z : k < 1792 + 256 * slot = omega arith in z)) (held .exps k l);
-      }
+  pointed-before k l =
+      List·getD-append (take (256 * slot) baps) (ps ++ drop 256 (drop (256 * slot) baps)) 0 k (let z : k < length (take (256 * slot) baps) = omega (arith, first) in z)
+      ∙ getD-take (256 * slot) baps k 0 l
 
-pub held-if : (t : Bool) (x y : List ℕ) → Held x → Held y → Held (cond t x y)
-held-if true x y a b = a
-held-if false x y a b = b
+  rest : (k : ℕ) → getD (pointedOf baps slot ps) (256 * slot + k) 0 ≡ getD (ps ++ drop 256 (drop (256 * slot) baps)) k 0
+  unfolding pointedOf
+  rest k =
+      let e : 256 * slot + k ≡ length (take (256 * slot) baps) + k = ap (λ x. x + k) (sym first) in
+      ap (λ x. getD (take (256 * slot) baps ++ (ps ++ drop 256 (drop (256 * slot) baps))) x 0) e
+      ∙ getD-append-add (take (256 * slot) baps) (ps ++ drop 256 (drop (256 * slot) baps)) k 0
+
+  pub pointed-at : (k : ℕ) → k < 256 → getD (pointedOf baps slot ps) (256 * slot + k) 0 ≡ getD ps k 0
+  pointed-at k l = rest k ∙ List·getD-append ps (drop 256 (drop (256 * slot) baps)) 0 k (let z : k < length ps = omega arith in z)
+
+  pub pointed-after : (k : ℕ) → 256 * slot + 256 ≤ k → getD (pointedOf baps slot ps) k 0 ≡ getD baps k 0
+  pointed-after k l =
+      let m = k - (256 * slot + 256) in
+      let e : k ≡ 256 * slot + (256 + m) = omega arith in
+      let f : 256 + m ≡ length ps + m = omega arith in
+      let g : 256 * slot + (256 + m) ≡ k = omega arith in
+      ap (λ x. getD (pointedOf baps slot ps) x 0) e ∙ rest (256 + m)
+      ∙ ap (λ x. getD (ps ++ drop 256 (drop (256 * slot) baps)) x 0) f ∙ getD-append-add ps (drop 256 (drop (256 * slot) baps)) m 0
+      ∙ getD-drop 256 (drop (256 * slot) baps) m 0 ∙ getD-drop (256 * slot) baps (256 + m) 0 ∙ ap (λ x. getD baps x 0) g
+
+  -- the pointers of the other slots stay
+  pub pointed-apart : (t : ℕ) → t < 7 → (t ≡ slot → ⊥) → (k : ℕ) → k < 256 → getD (pointedOf baps slot ps) (256 * t + k) 0 ≡ getD baps (256 * t + k) 0
+  pointed-apart t b q k l = by-cases (decLt t slot)
+      (λ u. pointed-before (256 * t + k) (let w : 256 * t + k < 256 * slot = omega arith in w))
+      (λ u. pointed-after (256 * t + k) (let w : 256 * slot + 256 ≤ 256 * t + k = omega arith in w))
+
+  -- those that are there already
+  pub pointed-there : ((k : ℕ) → k < 256 → getD baps (256 * slot + k) 0 ≡ getD ps k 0) → pointedOf baps slot ps ≡ baps
+  pointed-there f = ext-getD 0 (pointedOf baps slot ps) baps (pointed-length ∙ sym sized)
+      (λ i b. by-cases (decLt i (256 * slot)) (λ x. pointed-before i x)
+      (λ x. by-cases (decLt i (256 * slot + 256)) (λ y. here i (let z : 256 * slot ≤ i = omega arith in z) y)
+      (λ y. pointed-after i (let z : 256 * slot + 256 ≤ i = omega arith in z))))
+    where
+      here : (i : ℕ) → 256 * slot ≤ i → i < 256 * slot + 256 → getD (pointedOf baps slot ps) i 0 ≡ getD baps i 0
+      here i x y =
+          let m = i - 256 * slot in
+          let z : i ≡ 256 * slot + m = omega arith in
+          rw z (pointed-at m (omega arith) ∙ sym (f m (omega arith)))
 
 pub allocation-length : (k : Pointers) (e : List ℕ) (c : Channel) (p : Params) (l : Leak) (d : Deltas) → length (allocation k e c p l d) ≡ 256
 unfolding allocation
@@ -109,6 +123,11 @@ pub allocation-silent : (t : Bool) (k : Pointers) (e : List ℕ) (c : Channel) (
 unfolding allocation
 allocation-silent true k e c p l d = refl
 allocation-silent false k e c p l d = refl
+
+-- no segments, whatever their fields are
+pub no-deltas : (k : Pointers) (x : List ℕ) (c : Channel) (p : Params) (l : Leak) (d d′ : Deltas) → d .n ≡ 0 → d′ .n ≡ 0 → allocation k x c p l d ≡ allocation k x c p l d′
+unfolding allocation deltaed
+no-deltas k x c p l d d′ e f = rw (e, f)
 
 -- the silence test, the slots before `slot` passed
 and-assoc : (a b c : Bool) → a && (b && c) ≡ (a && b) && c
@@ -136,73 +155,89 @@ cond-length : (t : Bool) (x y : List ℕ) (n : ℕ) → length x ≡ n → lengt
 cond-length true x y n a b = a
 cond-length false x y n a b = b
 
--- the slots
-module _ (st : AllocState) (p : Params) (shape : Shape) (d : Segments) (bins : List ℕ) (slot : ℕ) where
-  pub slots-done : 7 ≤ slot → pointSlots st p shape d bins slot (7 - slot) ≡ bins
+-- the pointers of a slot
+module _ (st : AllocState) (p : Params) (shape : Shape) (d : Segments) (exps : List ℕ) (slot : ℕ) where
+  pub pointers-are : (silent : Bool) → silent ≡ silentOf st shape → (c : Channel) → c ≡ silenced silent (channelOf st shape slot) → (s : Deltas) → s ≡ segmentsOf d slot
+      → allocation (kindOf shape slot) (expsIn exps slot) c p (leakFor st slot) s ≡ pointersOf st p shape d exps slot
+  unfolding pointersOf
+  pointers-are silent i c j s n =
+      rw (j, n, i) (allocation-silent (silentOf st shape) (kindOf shape slot) (expsIn exps slot) (channelOf st shape slot) p (leakFor st slot) (segmentsOf d slot))
+
+  pub pointers-length : length (pointersOf st p shape d exps slot) ≡ 256
+  unfolding pointersOf
+  pointers-length =
+      cond-length (silentOf st shape) (replicate 256 0) (allocation (kindOf shape slot) (expsIn exps slot) (channelOf st shape slot) p (leakFor st slot) (segmentsOf d slot)) 256
+      refl (allocation-length (kindOf shape slot) (expsIn exps slot) (channelOf st shape slot) p (leakFor st slot) (segmentsOf d slot))
+
+  -- put among the others, if they are asked for
+  module _ (baps : List ℕ) where
+    pub slot-asked : requestedOf shape slot ≡ true → pointSlot st p shape d exps baps slot ≡ pointedOf baps slot (pointersOf st p shape d exps slot)
+    unfolding pointSlot
+    slot-asked e = rw e
+
+    pub slot-not-asked : requestedOf shape slot ≡ false → pointSlot st p shape d exps baps slot ≡ baps
+    unfolding pointSlot
+    slot-not-asked e = rw e
+
+-- slot by slot
+module _ (st : AllocState) (p : Params) (shape : Shape) (d : Segments) (exps baps : List ℕ) (slot : ℕ) where
+  pub slots-done : 7 ≤ slot → pointSlots st p shape d exps baps slot (7 - slot) ≡ baps
   unfolding pointSlots
   slots-done h = let e : 7 - slot ≡ 0 = omega arith in rw e
 
-  pointers-are : (silent : Bool) → silent ≡ silentOf st shape → (c : Channel) → c ≡ silenced silent (channelOf st shape slot) → (l : Leak) → l ≡ leakFor st slot
-      → (s : Deltas) → s ≡ segmentsOf d slot → (k : Pointers) → k ≡ kindOf shape slot → allocation k (expsIn bins slot) c p l s ≡ pointersOf st p shape d bins slot
-  unfolding pointersOf
-  pointers-are silent i c j l m s n k o =
-      rw (j, m, n, o, i) (allocation-silent (silentOf st shape) (kindOf shape slot) (expsIn bins slot) (channelOf st shape slot) p (leakFor st slot) (segmentsOf d slot))
-
-  pub pointed-are : (silent : Bool) → silent ≡ silentOf st shape → (c : Channel) → c ≡ silenced silent (channelOf st shape slot) → (l : Leak) → l ≡ leakFor st slot
-      → (s : Deltas) → s ≡ segmentsOf d slot → (k : Pointers) → k ≡ kindOf shape slot → (new : List ℕ) → new ≡ pointedOf bins slot (allocation k (expsIn bins slot) c p l s)
-      → new ≡ pointedOf bins slot (pointersOf st p shape d bins slot)
-  pointed-are silent i c j l m s n k o new e = e ∙ ap (λ v. pointedOf bins slot v) (pointers-are silent i c j l m s n k o)
-
-  pointers-length : length (pointersOf st p shape d bins slot) ≡ 256
-  unfolding pointersOf
-  pointers-length =
-      cond-length (silentOf st shape) (replicate 256 0) (allocation (kindOf shape slot) (expsIn bins slot) (channelOf st shape slot) p (leakFor st slot) (segmentsOf d slot)) 256
-      refl (allocation-length (kindOf shape slot) (expsIn bins slot) (channelOf st shape slot) p (leakFor st slot) (segmentsOf d slot))
-
-  pub slot-held : slot < 7 → Held bins → (new : List ℕ) → new ≡ pointedOf bins slot (pointersOf st p shape d bins slot) → Held new
-  slot-held h held new e = rw e (pointed-held bins held slot h (pointersOf st p shape d bins slot) pointers-length)
-
-  -- the next slot, this one asked for or not
-  module _ (h : slot < 7) (asked : Bool) (r : asked ≡ requestedOf shape slot) (new : List ℕ) where
-    next : (t : Bool) → asked ≡ t → new ≡ cond t (pointedOf bins slot (pointersOf st p shape d bins slot)) bins
-        → pointSlots st p shape d bins slot (7 - slot) ≡ pointSlots st p shape d new (slot + 1) (7 - (slot + 1))
-    unfolding pointSlots
-    next t u e =
-        let f : 7 - slot ≡ suc (7 - (slot + 1)) = omega arith in
-        let g : slot + 1 ≡ suc slot = omega arith in
-        rw (f, e, ← u, r, g)
-
-    pub slots-next : asked ≡ true → new ≡ pointedOf bins slot (pointersOf st p shape d bins slot)
-        → pointSlots st p shape d bins slot (7 - slot) ≡ pointSlots st p shape d new (slot + 1) (7 - (slot + 1))
-    slots-next t e = next true t e
-
-    pub slots-skip : asked ≡ false → new ≡ bins → pointSlots st p shape d bins slot (7 - slot) ≡ pointSlots st p shape d new (slot + 1) (7 - (slot + 1))
-    slots-skip t e = next false t e
+  pub slots-next : slot < 7 → (new : List ℕ) → pointSlot st p shape d exps baps slot ≡ new
+      → pointSlots st p shape d exps baps slot (7 - slot) ≡ pointSlots st p shape d exps new (slot + 1) (7 - (slot + 1))
+  unfolding pointSlots
+  slots-next h new e =
+      let f : 7 - slot ≡ suc (7 - (slot + 1)) = omega arith in
+      let g : slot + 1 ≡ suc slot = omega arith in
+      rw (f, ← e, g)
 
 -- a block
-module _ (st : AllocState) (fscod : ℕ) (shape : Shape) (d : Segments) (bins : List ℕ) (r : Parameters) (e : r ≡ st .parameters) where
-  pub never-sent : r ≡ NeverSent → allocated 29 bins ≡ allocatedOf st fscod shape d bins
+module _ (st : AllocState) (fscod : ℕ) (shape : Shape) (d : Segments) (exps baps : List ℕ) (r : Parameters) (e : r ≡ st .parameters) where
+  pub never-sent : r ≡ NeverSent → allocated 29 baps ≡ allocatedOf st fscod shape d exps baps
   unfolding allocatedOf
   never-sent f = rw (← e, f)
 
-  pub sent : (q : Codes) → r ≡ Sent q → (new : List ℕ) → new ≡ pointSlots st (paramsFor q fscod) shape d bins 0 7 → allocated 0 new ≡ allocatedOf st fscod shape d bins
+  pub sent : (q : Codes) → r ≡ Sent q → (new : List ℕ) → new ≡ pointSlots st (paramsFor q fscod) shape d exps baps 0 7 → allocated 0 new ≡ allocatedOf st fscod shape d exps baps
   unfolding allocatedOf
-  sent q f new g = ap (λ x. allocated 0 x) g ∙ ap (λ x. bySent x (allocated 29 bins) (λ p. allocated 0 (pointSlots st (paramsFor p fscod) shape d bins 0 7))) (sym f ∙ e)
+  sent q f new g = ap (λ x. allocated 0 x) g ∙ ap (λ x. bySent x (allocated 29 baps) (λ p. allocated 0 (pointSlots st (paramsFor p fscod) shape d exps baps 0 7))) (sym f ∙ e)
 
--- allocation keeps the exponents
-module _ (st : AllocState) (p : Params) (shape : Shape) (d : Segments) where
-  slots-keep : (bins : List ℕ) (slot n : ℕ) → slot + n ≤ 7 → Held bins → Held (pointSlots st p shape d bins slot n)
-  unfolding pointSlots
-  slots-keep bins slot zero h held = held
-  slots-keep bins slot (suc n) h held =
-      slots-keep (cond (requestedOf shape slot) (pointedOf bins slot (pointersOf st p shape d bins slot)) bins) (suc slot) n (omega arith)
-      (held-if (requestedOf shape slot) (pointedOf bins slot (pointersOf st p shape d bins slot)) bins
-      (slot-held st p shape d bins slot (omega arith) held _ refl) held)
+-- segments that are alike
+pub alike-same : (d : Segments) (slot : ℕ) → Alike (segmentsOf d slot) (segmentsOf d slot)
+alike-same d slot = record { many = refl; rest = λ h. refl }
 
-pub allocated-held : (st : AllocState) (fscod : ℕ) (shape : Shape) (d : Segments) (bins : List ℕ) → Held bins → Held (allocatedOf st fscod shape d bins .bins)
-unfolding allocatedOf
-allocated-held st fscod shape d bins held = go (st .parameters)
+pub alike-none : (n o l b o′ l′ b′ : List ℕ) → ((k : ℕ) → k < 6 → getD n k 0 ≡ 0) → (slot : ℕ) → Alike (segmentsOf (segmentsBy n o l b) slot) (segmentsOf (segmentsBy n o′ l′ b′) slot)
+unfolding segmentsOf
+alike-none n o l b o′ l′ b′ z slot = go (ltb slot 6) refl
   where
-    go : (q : Parameters) → Held (bySent q (allocated 29 bins) (λ p. allocated 0 (pointSlots st (paramsFor p fscod) shape d bins 0 7)) .bins)
-    go NeverSent = held
-    go (Sent p) = slots-keep st (paramsFor p fscod) shape d bins 0 7 (omega arith) held
+    go : (t : Bool) → ltb slot 6 ≡ t → Alike
+        (cond t (record { n = min (getD n slot 0) 8; offset = eightOf o (8 * slot); len = eightOf l (8 * slot); ba = eightOf b (8 * slot) }) (record { n = 0; offset = replicate 8 0; len = replicate 8 0; ba = replicate 8 0 }))
+        (cond t (record { n = min (getD n slot 0) 8; offset = eightOf o′ (8 * slot); len = eightOf l′ (8 * slot); ba = eightOf b′ (8 * slot) }) (record { n = 0; offset = replicate 8 0; len = replicate 8 0; ba = replicate 8 0 }))
+    go true e = record { many = refl; rest = λ h. absurd (h (let y = z slot (ltb-true slot 6 e) in omega arith)) }
+    go false e = record { many = refl; rest = λ h. refl }
+
+module _ (st : AllocState) (shape : Shape) (d e : Segments) (alike : (slot : ℕ) → Alike (segmentsOf d slot) (segmentsOf e slot)) where
+  allocation-alike : (k : Pointers) (x : List ℕ) (c : Channel) (p : Params) (l : Leak) (slot : ℕ) → allocation k x c p l (segmentsOf d slot) ≡ allocation k x c p l (segmentsOf e slot)
+  allocation-alike k x c p l slot = go (ℕ-discrete (segmentsOf d slot .n) 0)
+    where
+      go : Dec (segmentsOf d slot .n ≡ 0) → allocation k x c p l (segmentsOf d slot) ≡ allocation k x c p l (segmentsOf e slot)
+      go (yes q) = no-deltas k x c p l (segmentsOf d slot) (segmentsOf e slot) q (sym (alike slot .many) ∙ q)
+      go (no q) = ap (λ y. allocation k x c p l y) (alike slot .rest q)
+
+  slots-alike : (p : Params) (exps : List ℕ) (n slot : ℕ) (baps : List ℕ) → pointSlots st p shape d exps baps slot n ≡ pointSlots st p shape e exps baps slot n
+  unfolding pointSlots pointSlot pointersOf
+  slots-alike p exps zero slot baps = refl
+  slots-alike p exps (suc n) slot baps =
+      slots-alike p exps n (suc slot) (pointSlot st p shape d exps baps slot)
+      ∙ ap (λ x. pointSlots st p shape e exps (cond (requestedOf shape slot) (pointedOf baps slot (cond (silentOf st shape) (replicate 256 0) x)) baps) (suc slot) n)
+      (allocation-alike (kindOf shape slot) (expsIn exps slot) (channelOf st shape slot) p (leakFor st slot) slot)
+
+  pub allocated-alike : (fscod : ℕ) (exps baps : List ℕ) → allocatedOf st fscod shape d exps baps ≡ allocatedOf st fscod shape e exps baps
+  unfolding allocatedOf
+  allocated-alike fscod exps baps = go (st .parameters)
+    where
+      go : (q : Parameters) → bySent q (allocated 29 baps) (λ p. allocated 0 (pointSlots st (paramsFor p fscod) shape d exps baps 0 7))
+          ≡ bySent q (allocated 29 baps) (λ p. allocated 0 (pointSlots st (paramsFor p fscod) shape e exps baps 0 7))
+      go NeverSent = refl
+      go (Sent p) = ap (λ x. allocated 0 x) (slots-alike (paramsFor p fscod) exps 7 0 baps)

@@ -45,3 +45,8 @@ bap-within exp c q l d bin = within Bap 15 bap-at-most-15 exp c q l d bin
 
 pub hebap-within : (exp : List ℕ) (c : Channel) (q : Params) (l : Leak) (d : Deltas) (bin : ℕ) → getD (allocation Hebap exp c q l d) bin 0 ≤ 19
 hebap-within exp c q l d bin = within Hebap 19 hebap-at-most-19 exp c q l d bin
+
+-- so that none is above 19
+pub pointer-within : (kind : Pointers) (exp : List ℕ) (c : Channel) (q : Params) (l : Leak) (d : Deltas) (bin : ℕ) → getD (allocation kind exp c q l d) bin 0 ≤ 19
+pointer-within Bap exp c q l d bin = let h = bap-within exp c q l d bin in omega arith
+pointer-within Hebap exp c q l d bin = hebap-within exp c q l d bin

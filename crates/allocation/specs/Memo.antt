@@ -2,9 +2,9 @@
 use mathlib.Core.Path.{_≡_}
 use mathlib.Core.Bool.{Bool, true, false, cond}
 use mathlib.Core.List.{List, [], _∷_}
-use Prim.Native.Nat.{ℕ, _+_, _*_, _/_, _%_, _<_, _≤_}
-use lib.Dec.{eqb}
-use lib.ListN.{length, getD, take, drop}
+use Prim.Native.Nat.{ℕ, zero, suc, _+_, _-_, _*_, _/_, _%_, _<_, _≤_}
+use lib.Dec.{eqb, ltb}
+use lib.ListN.{length, getD, set}
 use Rattle.tables.specs.BitAllocation.{fastgain}
 use Rattle.alloc.specs.Allocation.{paramsOf, leakOf, allocation}
 use Rattle.alloc.specs.declared.Params.{Params}
@@ -14,88 +14,121 @@ use Rattle.alloc.specs.declared.Leak.{Leak}
 use Rattle.alloc.specs.declared.Leak.the-variants.{Absent}
 use Rattle.alloc.specs.declared.Pointers.{Pointers}
 use Rattle.alloc.specs.declared.Pointers.the-variants.{Bap, Hebap}
-use Rattle.slots.specs.Slots.{CPL}
-use Rattle.allocation.specs.State.{expsIn}
+use Rattle.slots.specs.Slots.{CPL, requestedOf}
 use Rattle.slots.specs.declared.Shape.{Shape}
-use Rattle.allocation.specs.declared.Codes.{Codes}
+use Rattle.mantissas.specs.Tally.{packed, tallyOf}
+use Rattle.allocation.specs.State.{expsIn, pointSlot, pointSlots}
 use Rattle.allocation.specs.declared.AllocState.{AllocState}
+use Rattle.allocation.specs.declared.Segments.{Segments}
+use Rattle.allocation.specs.declared.memo.Source.{Source}
 
--- the arguments of an allocation as 48 bytes: 1, the kind, the channel, the parameters, the leaks, and from 24 on the segments
-abbrev pub kindBy : List ℕ → Pointers
-kindBy a = cond (eqb (getD a 1 0) 1) Hebap Bap
+-- a byte of a word, counted from the lowest, and all eight
+unfoldable pub byteOf : ℕ → ℕ → ℕ
+byteOf w zero = w % 256
+byteOf w (suc i) = byteOf (w / 256) i
 
-abbrev pub channelBy : List ℕ → Channel
-channelBy a =
+abbrev pub eightIn : ℕ → List ℕ
+eightIn w = byteOf w 0 ∷ byteOf w 1 ∷ byteOf w 2 ∷ byteOf w 3 ∷ byteOf w 4 ∷ byteOf w 5 ∷ byteOf w 6 ∷ byteOf w 7 ∷ []
+
+-- these are the bytes of a word
+pub record Packs (xs : List ℕ) (w : ℕ) : Type 0 where
+  pub bytes : (k : ℕ) → k < 8 → byteOf w k ≡ getD xs k 0
+
+-- the arguments of an allocation in words. The slot's own: one more than the number of segments, the kind, the channel
+abbrev pub kindBy : Source → Pointers
+kindBy s = cond (eqb (byteOf (s .own) 1) 1) Hebap Bap
+
+abbrev pub startBy : ℕ → ℕ
+startBy own = byteOf own 2 + 256 * byteOf own 3
+
+abbrev pub endBy : ℕ → ℕ
+endBy own = byteOf own 4
+
+abbrev pub channelBy : Source → Channel
+channelBy s =
     record {
-      start = getD a 2 0 + 256 * getD a 3 0;
-      end = getD a 4 0;
-      fgain = getD fastgain (getD a 5 0) 0;
-      csnroffst = getD a 6 0;
-      fsnroffst = getD a 7 0;
+      start = startBy (s .own);
+      end = endBy (s .own);
+      fgain = getD fastgain (byteOf (s .own) 5) 0;
+      csnroffst = byteOf (s .own) 6;
+      fsnroffst = byteOf (s .own) 7;
     }
 
-abbrev pub paramsBy : List ℕ → Params
-paramsBy a = paramsOf (getD a 8 0) (getD a 9 0) (getD a 10 0) (getD a 11 0) (getD a 12 0) (getD a 13 0)
+-- what all slots have in common: the parameters, and the leaks of coupling
+abbrev pub paramsBy : Source → Params
+paramsBy s = paramsOf (byteOf (s .common) 0) (byteOf (s .common) 1) (byteOf (s .common) 2) (byteOf (s .common) 3) (byteOf (s .common) 4) (byteOf (s .common) 5)
 
-abbrev pub leakBy : List ℕ → Leak
-leakBy a = cond (eqb (getD a 14 0) 1) (leakOf (getD a 15 0) (getD a 16 0)) Absent
+abbrev pub leakBy : ℕ → Source → Leak
+leakBy slot s = cond (eqb slot CPL) (leakOf (byteOf (s .common) 6) (byteOf (s .common) 7)) Absent
 
-abbrev pub deltasBy : List ℕ → Deltas
-deltasBy a = record { n = getD a 17 0; offset = take 8 (drop 24 a); len = take 8 (drop 32 a); ba = take 8 (drop 40 a) }
+-- and the segments
+abbrev pub deltasBy : Source → Deltas
+deltasBy s = record { n = byteOf (s .own) 0 - 1; offset = eightIn (s .offset); len = eightIn (s .len); ba = eightIn (s .ba) }
 
-unfoldable pub allocationBy : List ℕ → List ℕ → List ℕ
-allocationBy a exps = allocation (kindBy a) exps (channelBy a) (paramsBy a) (leakBy a) (deltasBy a)
+unfoldable pub allocationBy : ℕ → Source → List ℕ → List ℕ
+allocationBy slot s exps = allocation (kindBy s) exps (channelBy s) (paramsBy s) (leakBy slot s) (deltasBy s)
 
--- the bytes say these arguments
-pub record Says (a : List ℕ) (k : Pointers) (c : Channel) (p : Params) (l : Leak) (d : Deltas) : Type 0 where
-  pub size : length a ≡ 48
-  pub made : getD a 0 0 ≡ 1
-  pub kind : kindBy a ≡ k
-  pub channel : channelBy a ≡ c
-  pub params : paramsBy a ≡ p
-  pub leak : leakBy a ≡ l
-  pub deltas : deltasBy a ≡ d
+-- at most eight segments, in arrays of eight
+pub record Short (d : Deltas) : Type 0 where
+  pub few : d .n ≤ 8
+  pub offset : length (d .offset) ≡ 8
+  pub len : length (d .len) ≡ 8
+  pub ba : length (d .ba) ≡ 8
 
--- how the code makes them: all but the segments, then those
-abbrev pub headOf : AllocState → Codes → ℕ → Shape → ℕ → Channel → ℕ → List ℕ
-headOf st q fscod shape slot c n =
-    1 ∷ cond (getD (shape .ahtinu) slot false) 1 0 ∷ c .start % 256 ∷ c .start / 256 % 256 ∷ c .end % 256 ∷ getD (st .fgaincod) slot 0
-    ∷ c .csnroffst ∷ c .fsnroffst ∷ q .sdcycod ∷ q .fdcycod ∷ q .sgaincod ∷ q .dbpbcod ∷ q .floorcod ∷ fscod
-    ∷ cond (eqb slot CPL) 1 0 ∷ st .cplfleak ∷ st .cplsleak ∷ n % 256 ∷ []
+-- the words say these arguments
+pub record Says (slot : ℕ) (s : Source) (k : Pointers) (c : Channel) (p : Params) (l : Leak) (d : Deltas) : Type 0 where
+  pub made : 0 < s .own
+  pub start : startBy (s .own) ≡ c .start
+  pub end : endBy (s .own) ≡ c .end
+  pub is : (exps : List ℕ) → allocationBy slot s exps ≡ allocation k exps c p l d
 
-pub record Joined (a head : List ℕ) (d : Deltas) : Type 0 where
-  pub size : length a ≡ 48
-  pub heads : (k : ℕ) → k < 18 → getD a k 0 ≡ getD head k 0
-  pub offset : take 8 (drop 24 a) ≡ d .offset
-  pub len : take 8 (drop 32 a) ≡ d .len
-  pub ba : take 8 (drop 40 a) ≡ d .ba
+-- six words for each of seven slots: the arguments, and the tally of the pointers
+abbrev pub sourceAt : List ℕ → ℕ → Source
+sourceAt memo slot =
+    record {
+      own = getD memo (6 * slot) 0;
+      common = getD memo (6 * slot + 1) 0;
+      offset = getD memo (6 * slot + 2) 0;
+      len = getD memo (6 * slot + 3) 0;
+      ba = getD memo (6 * slot + 4) 0;
+    }
 
--- 304 bytes for each of seven slots: the arguments, and the exponents
-abbrev pub argsKept : List ℕ → ℕ → List ℕ
-argsKept memo slot = take 48 (drop (304 * slot) memo)
+-- of a slot that is not stale the tally is that of its pointers
+pub record Tallies (memo baps : List ℕ) : Type 0 where
+  pub size : length memo ≡ 42
+  pub sized : length baps ≡ 1792
+  pub tally : (slot : ℕ) → slot < 7 → 0 < getD memo (6 * slot) 0
+      → getD memo (6 * slot + 5) 0
+      ≡ packed (tallyOf baps slot (startBy (getD memo (6 * slot) 0)) (endBy (getD memo (6 * slot) 0) - startBy (getD memo (6 * slot) 0)))
 
-abbrev pub expsKept : List ℕ → ℕ → List ℕ
-expsKept memo slot = take 256 (drop (304 * slot + 48) memo)
+-- and its pointers are the allocation by what is kept and by the exponents that are held now
+pub record Memo (memo exps baps : List ℕ) : Type 0 where
+  pub tallies : Tallies memo baps
+  pub right : (slot : ℕ) → slot < 7 → 0 < getD memo (6 * slot) 0
+      → (k : ℕ) → k < 256 → getD baps (256 * slot + k) 0 ≡ getD (allocationBy slot (sourceAt memo slot) (expsIn exps slot)) k 0
 
--- where arguments are kept, the slot's pointers are the allocation by them
-pub record Memo (memo bins : List ℕ) : Type 0 where
-  pub size : length memo ≡ 2128
-  pub right : (slot : ℕ) → slot < 7 → getD memo (304 * slot) 0 ≡ 1
-      → (k : ℕ) → k < 256 → getD bins (1792 + 256 * slot + k) 0 ≡ getD (allocationBy (argsKept memo slot) (expsKept memo slot)) k 0
+-- a slot made stale
+unfoldable pub staleOf : List ℕ → ℕ → List ℕ
+staleOf memo slot = cond (ltb slot 7) (set memo (6 * slot) 0) memo
 
--- n entries of two lists are the same, if t holds
-pub record Alike (t : Bool) (a : List ℕ) (i : ℕ) (b : List ℕ) (j n : ℕ) : Type 0 where
-  pub same : t ≡ true → (k : ℕ) → k < n → getD a (i + k) 0 ≡ getD b (j + k) 0
+-- what is kept of a slot is this, if t holds
+pub record Kept (t : Bool) (memo : List ℕ) (slot : ℕ) (s : Source) : Type 0 where
+  pub same : t ≡ true → sourceAt memo slot ≡ s
 
--- what is kept of a slot are these arguments and its exponents, if t holds
-pub record Kept (t : Bool) (memo bins : List ℕ) (slot : ℕ) (a : List ℕ) : Type 0 where
-  pub args : t ≡ true → argsKept memo slot ≡ a
-  pub exps : t ≡ true → expsKept memo slot ≡ expsIn bins slot
-
--- arguments and exponents are kept of one slot, the others as they were
-pub record Noted (old new : List ℕ) (slot : ℕ) (a x : List ℕ) : Type 0 where
+-- this and a tally are kept of one slot, the others as they were
+pub record Noted (old new : List ℕ) (slot : ℕ) (s : Source) (t : ℕ) : Type 0 where
   pub size : length new ≡ length old
-  pub args : (k : ℕ) → k < 48 → getD new (304 * slot + k) 0 ≡ getD a k 0
-  pub exps : (k : ℕ) → k < 256 → getD new (304 * slot + 48 + k) 0 ≡ getD x k 0
-  pub before : (k : ℕ) → k < 304 * slot → getD new k 0 ≡ getD old k 0
-  pub after : (k : ℕ) → 304 * slot + 304 ≤ k → getD new k 0 ≡ getD old k 0
+  pub source : sourceAt new slot ≡ s
+  pub tally : getD new (6 * slot + 5) 0 ≡ t
+  pub before : (k : ℕ) → k < 6 * slot → getD new k 0 ≡ getD old k 0
+  pub after : (k : ℕ) → 6 * slot + 6 ≤ k → getD new k 0 ≡ getD old k 0
+
+-- whether a slot is asked for and not kept: where t does not hold, its pointers are there already
+pub record Stale (t : Bool) (st : AllocState) (p : Params) (shape : Shape) (d : Segments) (memo : List ℕ) (slot : ℕ) : Type 0 where
+  pub asked : t ≡ true → requestedOf shape slot ≡ true
+  pub there : t ≡ false → (exps baps : List ℕ) → Memo memo exps baps → pointSlot st p shape d exps baps slot ≡ baps
+
+-- the pointers of the slots before `slot` are there already
+pub record Passes (slot : ℕ) (st : AllocState) (p : Params) (shape : Shape) (d : Segments) (memo : List ℕ) : Type 0 where
+  pub within : slot ≤ 7
+  pub there : (exps baps : List ℕ) → Memo memo exps baps → pointSlots st p shape d exps baps 0 7 ≡ pointSlots st p shape d exps baps slot (7 - slot)

@@ -1,4 +1,5 @@
 -- The state of bit allocation and the pointers of a block (A/52 clause 7.2.2.1, TS 102 366 clause 6.2.2.1; deltas: 7.2.2.6 and 6.2.2.6).
+use mathlib.Core.Path.{_≡_}
 use mathlib.Core.Bool.{Bool, true, false, _&&_, _||_, not, cond}
 use mathlib.Core.List.{List, [], _∷_, _++_}
 use Prim.Native.Nat.{ℕ, zero, suc, _+_, _*_, _-_, min}
@@ -56,6 +57,11 @@ segmentsOf d slot =
     })
     (record { n = 0; offset = replicate 8 0; len = replicate 8 0; ba = replicate 8 0 })
 
+-- two ways to say the same segments: where there are none, their fields do not matter
+pub record Alike (a b : Deltas) : Type 0 where
+  pub many : a .n ≡ b .n
+  pub rest : (a .n ≡ 0 → ⊥) → a ≡ b
+
 -- 7.2.2.1: where csnroffst and every fsnroffst in use are 0, all pointers are 0
 unfoldable pub offsetsZero : AllocState → Shape → ℕ → ℕ → Bool
 offsetsZero st shape slot zero = true
@@ -84,39 +90,42 @@ kindOf shape slot = cond (getD (shape .ahtinu) slot false) Hebap Bap
 abbrev pub paramsFor : Codes → ℕ → Params
 paramsFor p fscod = paramsOf (p .sdcycod) (p .fdcycod) (p .sgaincod) (p .dbpbcod) (p .floorcod) fscod
 
--- the exponents of a slot, and the bins with other pointers for a slot
+-- the exponents of a slot, and the pointers with others for a slot
 abbrev pub expsIn : List ℕ → ℕ → List ℕ
-expsIn bins slot = take 256 (drop (256 * slot) bins)
+expsIn exps slot = take 256 (drop (256 * slot) exps)
 
 unfoldable pub pointedOf : List ℕ → ℕ → List ℕ → List ℕ
-pointedOf bins slot ps = take (1792 + 256 * slot) bins ++ (ps ++ drop 256 (drop (1792 + 256 * slot) bins))
+pointedOf baps slot ps = take (256 * slot) baps ++ (ps ++ drop 256 (drop (256 * slot) baps))
 
-module _ (st : AllocState) (p : Params) (shape : Shape) (d : Segments) where
+module _ (st : AllocState) (p : Params) (shape : Shape) (d : Segments) (exps : List ℕ) where
   -- the pointers of a slot
-  unfoldable pub pointersOf : List ℕ → ℕ → List ℕ
-  pointersOf bins slot =
+  unfoldable pub pointersOf : ℕ → List ℕ
+  pointersOf slot =
       cond (silentOf st shape) (replicate 256 0)
-      (allocation (kindOf shape slot) (expsIn bins slot) (channelOf st shape slot) p (leakFor st slot) (segmentsOf d slot))
+      (allocation (kindOf shape slot) (expsIn exps slot) (channelOf st shape slot) p (leakFor st slot) (segmentsOf d slot))
 
-  -- those of n slots from the slot `slot` on, where they are asked for
+  -- put among the others where the slot is asked for
+  unfoldable pub pointSlot : List ℕ → ℕ → List ℕ
+  pointSlot baps slot = cond (requestedOf shape slot) (pointedOf baps slot (pointersOf slot)) baps
+
+  -- those of n slots from the slot `slot` on
   unfoldable pub pointSlots : List ℕ → ℕ → ℕ → List ℕ
-  pointSlots bins slot zero = bins
-  pointSlots bins slot (suc n) =
-      pointSlots (cond (requestedOf shape slot) (pointedOf bins slot (pointersOf bins slot)) bins) (suc slot) n
+  pointSlots baps slot zero = baps
+  pointSlots baps slot (suc n) = pointSlots (pointSlot baps slot) (suc slot) n
 
--- a refusal number, or 0, and the bins after it
+-- a refusal number, or 0, and the pointers after it
 pub record Allocated : Type 0 where
   pub number : ℕ
-  pub bins : List ℕ
+  pub baps : List ℕ
 
 abbrev pub allocated : ℕ → List ℕ → Allocated
-allocated n bins = record { number = n; bins = bins }
+allocated n baps = record { number = n; baps = baps }
 
 abbrev pub bySent : Parameters → Allocated → (Codes → Allocated) → Allocated
 bySent NeverSent a k = a
 bySent (Sent p) a k = k p
 
 -- a block: refusal 29 where no parameters were ever sent
-unfoldable pub allocatedOf : AllocState → ℕ → Shape → Segments → List ℕ → Allocated
-allocatedOf st fscod shape d bins =
-    bySent (st .parameters) (allocated 29 bins) (λ p. allocated 0 (pointSlots st (paramsFor p fscod) shape d bins 0 7))
+unfoldable pub allocatedOf : AllocState → ℕ → Shape → Segments → List ℕ → List ℕ → Allocated
+allocatedOf st fscod shape d exps baps =
+    bySent (st .parameters) (allocated 29 baps) (λ p. allocated 0 (pointSlots st (paramsFor p fscod) shape d exps baps 0 7))

@@ -1,12 +1,15 @@
 // The state of bit allocation, and the pointers of a block (A/52 clause 7.2.2.1, TS 102 366 clause 6.2.2.1).
-use crate::memo::fill;
+use crate::memo::Source;
 use crate::memo::kept;
 use crate::memo::note;
+use crate::memo::word;
+use crate::memo::word_of;
 use alloc::Channel;
 use alloc::Deltas;
 use alloc::Leak;
 use alloc::Params;
 use alloc::Pointers;
+use mantissas::tally::shares;
 use slots::CPL;
 use slots::LFE;
 use slots::Range;
@@ -16,20 +19,21 @@ use slots::range_at;
 use slots::requested;
 ghost use mathlib.Core.Path.{_≡_};
 ghost use mathlib.Core.Bool.{_&&_, _||_, not, cond};
-ghost use mathlib.Core.List.{_++_};
+ghost use mathlib.Core.List.{[], _∷_};
 ghost use Prim.Native.Nat.{ℕ, _+_, _*_, _-_, _/_, _%_, _<_, _≤_, min};
 ghost use lib.Dec.{eqb};
 ghost use lib.ListN.{length, getD, take, drop};
-ghost use Rattle.alloc.specs.Allocation.{allocation, fastOf, slowOf};
-ghost use Rattle.alloc.specs.Premises.{Lent, Exponents, Tuned, Channelled};
+ghost use Rattle.alloc.specs.Allocation.{tab, fastOf, slowOf};
+ghost use Rattle.alloc.specs.Premises.{Lent};
+ghost use Rattle.mantissas.specs.Tally.{shareOf};
 ghost use Rattle.slots.specs.Slots.{requestedOf, rangeOf};
 ghost use Rattle.slots.specs.Held.{Held};
-ghost use Rattle.allocation.specs.State.{freshState, eightOf, segmentsOf, offsetsZero, silentOf, channelOf, leakFor, kindOf, paramsFor, expsIn, pointedOf, pointersOf, pointSlots, allocated, allocatedOf, segmentsBy};
+ghost use Rattle.allocation.specs.State.{freshState, eightOf, segmentsOf, offsetsZero, silentOf, channelOf, leakFor, kindOf, paramsFor, pointedOf, pointersOf, pointSlots, allocated, allocatedOf, segmentsBy};
 ghost use Rattle.allocation.specs.Coded.{Coded, silenced};
-ghost use Rattle.allocation.specs.Memo.{Memo, Says, headOf, Joined};
+ghost use Rattle.allocation.specs.Memo.{Short, Packs, Says, Stale, Passes, Memo};
 ghost use Rattle.tables.specs.BitAllocation.{fastgain};
 
-mod memo; // what is kept of the last allocation of each slot
+pub mod memo; // what is kept of the last allocation of each slot
 
 // The codes of the parameters.
 pub struct Codes {
@@ -110,7 +114,7 @@ fn eight(xs: &[u8; 48], slot: u8) -> [u8; 8]
 
 // The segments of a slot; the LFE channel has none.
 fn segments_of(n: &[u8; 6], offset: &[u8; 48], len: &[u8; 48], ba: &[u8; 48], slot: u8) -> Deltas
-    ensures { λ r. ⌜ (r ≡ segmentsOf (segmentsBy (now (n .entry)) (now (offset .entry)) (now (len .entry)) (now (ba .entry))) slot) × (r .n ≤ 8) ⌝ }
+    ensures { λ r. ⌜ (r ≡ segmentsOf (segmentsBy (now (n .entry)) (now (offset .entry)) (now (len .entry)) (now (ba .entry))) slot) × Short r ⌝ }
 {
     if slot < LFE {
         let i = slot as usize;
@@ -206,22 +210,6 @@ fn kind_of(shape: Shape, slot: u8) -> Pointers
     Pointers::Bap
 }
 
-// The exponents of a slot.
-fn exps_in(bins: &[u8], slot: usize) -> [u8; 256]
-    requires { ⌜ 256 * slot + 256 ≤ length (now bins) ⌝ }
-    ensures { λ r. ⌜ r ≡ expsIn (now (bins .entry)) slot ⌝ }
-{
-    let base = 256 * slot;
-    let mut out = [0u8; 256];
-    let mut i: usize = 0;
-    while i < 256 {
-        let k = base + i;
-        out[i] = bins[k];
-        i += 1;
-    }
-    out
-}
-
 fn one_if(b: bool) -> u8
     ensures { λ r. ⌜ r ≡ cond b 1 0 ⌝ }
 {
@@ -241,110 +229,78 @@ fn high(x: usize) -> u8
     (x / 256 % 256) as u8
 }
 
-// The arguments of a slot's allocation as bytes, but for the segments.
-fn head_of(
-    st: AllocState,
-    q: Codes,
-    fscod: u8,
-    shape: Shape,
-    slot: u8,
-    c: Channel,
-    n: usize,
-) -> [u8; 18]
-    requires { ⌜ slot < 7 ⌝ }
-    ensures { λ r. ⌜ r ≡ headOf st q fscod shape slot c n ⌝ }
+// The words of a slot's own: how many segments there are, the kind, the channel.
+fn own_of(hybrid: bool, fgaincod: u8, c: Channel, n: usize) -> u64
+    requires { ⌜ n ≤ 8 ⌝ }
+    ensures { λ r. ⌜ Packs ((n + 1) ∷ cond hybrid 1 0 ∷ c .start % 256 ∷ c .start / 256 % 256 ∷ c .end % 256 ∷ fgaincod ∷ c .csnroffst ∷ c .fsnroffst ∷ []) r ⌝ }
 {
-    let i = slot as usize;
-    let kind = one_if(hybrid(shape, slot));
-    let coupling = one_if(slot == CPL);
-    [
-        1,
-        kind,
+    word(
+        low(n + 1),
+        one_if(hybrid),
         low(c.start),
         high(c.start),
         low(c.end),
-        st.fgaincod[i],
+        fgaincod,
         c.csnroffst,
         c.fsnroffst,
+    )
+}
+
+// The word of what all slots have in common.
+fn common_of(q: Codes, fscod: u8, cplfleak: u8, cplsleak: u8) -> u64
+    ensures { λ r. ⌜ Packs (q .sdcycod ∷ q .fdcycod ∷ q .sgaincod ∷ q .dbpbcod ∷ q .floorcod ∷ fscod ∷ cplfleak ∷ cplsleak ∷ []) r ⌝ }
+{
+    word(
         q.sdcycod,
         q.fdcycod,
         q.sgaincod,
         q.dbpbcod,
         q.floorcod,
         fscod,
-        coupling,
-        st.cplfleak,
-        st.cplsleak,
-        low(n),
-    ]
+        cplfleak,
+        cplsleak,
+    )
 }
 
-// The segments put to them.
-fn args_of(head: [u8; 18], s: Deltas) -> [u8; 48]
-    ensures { λ r. ⌜ Joined r head s ⌝ }
-{
-    let offset = s.offset;
-    let len = s.len;
-    let ba = s.ba;
-    let mut a = [0u8; 48];
-    fill(&mut a, 0, &head);
-    fill(&mut a, 24, &offset);
-    fill(&mut a, 32, &len);
-    fill(&mut a, 40, &ba);
-    a
-}
-
-// The pointers of a slot computed, and what they were computed from is kept.
-fn renew(
-    latab: &[u8; 256],
-    masktab: &[u8; 253],
-    ends: &[u8; 50],
-    hth: &[u16; 150],
-    points: &[u8; 128],
-    bins: &mut [u8],
-    memo: &mut [u8; 2128],
-    slot: usize,
-    args: &[u8; 48],
+// What the pointers of a slot are computed from. Where there are no segments, their words are 0.
+fn source_of(
+    st: AllocState,
+    q: Codes,
+    fscod: u8,
+    shape: Shape,
+    slot: u8,
     c: Channel,
-    p: Params,
-    l: Leak,
     d: Deltas,
-    kind: Pointers,
-)
-    requires { ⌜ Lent (now latab) (now masktab) (now ends) (now hth) (now points) ⌝ }
-    requires { ⌜ (Held (now bins)) × (slot < 7) × Memo (now memo) (now bins) × Says (now args) kind c p l d ⌝ }
-    requires { ⌜ (Channelled c l d) × Tuned p ⌝ }
-    ensures { λ r. ⌜ (now (bins .exit) ≡ pointedOf (now (bins .entry)) slot (allocation kind (expsIn (now (bins .entry)) slot) c p l d)) × Memo (now (memo .exit)) (now (bins .exit)) ⌝ }
+) -> Source
+    requires { ⌜ (slot < 7) × Short d × (c .start < 65536) × (c .end ≤ 253) × (c .fgain ≡ getD fastgain (getD (st .fgaincod) slot 0) 0) ⌝ }
+    ensures { λ r. ⌜ Says slot r (kindOf shape slot) c (paramsFor q fscod) (leakFor st slot) d ⌝ }
 {
-    let exps = exps_in(bins, slot);
-    let a = 1792 + 256 * slot;
-    let e = a + 256;
-    alloc::allocate(
-        latab,
-        masktab,
-        ends,
-        hth,
-        points,
-        &exps,
-        &mut bins[a..e],
-        c,
-        p,
-        l,
-        d,
-        kind,
-    );
-    note(memo, slot, args, &exps);
+    let i = slot as usize;
+    let own = own_of(hybrid(shape, slot), st.fgaincod[i], c, d.n);
+    let common = common_of(q, fscod, st.cplfleak, st.cplsleak);
+    if d.n == 0 {
+        return Source {
+            own: own,
+            common: common,
+            offset: 0,
+            len: 0,
+            ba: 0,
+        };
+    }
+    let offset = d.offset;
+    let len = d.len;
+    let ba = d.ba;
+    Source {
+        own: own,
+        common: common,
+        offset: word_of(offset),
+        len: word_of(len),
+        ba: word_of(ba),
+    }
 }
 
-// The pointers of a slot; computed only where something changed since.
-fn point(
-    latab: &[u8; 256],
-    masktab: &[u8; 253],
-    ends: &[u8; 50],
-    hth: &[u16; 150],
-    points: &[u8; 128],
-    bins: &mut [u8],
-    memo: &mut [u8; 2128],
+// Whether the pointers of a slot are asked for and are not kept.
+fn stale_at(
     st: AllocState,
     q: Codes,
     fscod: u8,
@@ -353,44 +309,104 @@ fn point(
     offset: &[u8; 48],
     len: &[u8; 48],
     ba: &[u8; 48],
+    memo: &[u64; 42],
+    silent: bool,
+    slot: u8,
+) -> bool
+    requires { ⌜ (length (now memo) ≡ 42) × (slot < 7) × (silent ≡ silentOf st shape) ⌝ }
+    ensures { λ r. ⌜ Stale r st (paramsFor q fscod) shape (segmentsBy (now (n .entry)) (now (offset .entry)) (now (len .entry)) (now (ba .entry))) (now (memo .entry)) slot ⌝ }
+{
+    if !requested(shape, slot) {
+        return false;
+    }
+    let c = channel(st, shape, slot, silent);
+    let d = segments_of(n, offset, len, ba, slot);
+    let s = source_of(st, q, fscod, shape, slot, c, d);
+    !kept(memo, slot as usize, s)
+}
+
+// The pointers of a slot computed; what they were computed from and their tally are kept.
+fn renew(
+    latab: &[u8; 256],
+    masktab: &[u8; 253],
+    ends: &[u8; 50],
+    hth: &[u16; 150],
+    points: &[u8; 1024],
+    shares: &[u64; 256],
+    st: AllocState,
+    q: Codes,
+    fscod: u8,
+    shape: Shape,
+    n: &[u8; 6],
+    offset: &[u8; 48],
+    len: &[u8; 48],
+    ba: &[u8; 48],
+    exps: &[u8],
+    baps: &mut [u8],
+    memo: &mut [u64; 42],
     p: Params,
     silent: bool,
     slot: u8,
 )
-    requires { ⌜ Lent (now latab) (now masktab) (now ends) (now hth) (now points) ⌝ }
-    requires { ⌜ (Held (now bins)) × (slot < 7) × Memo (now memo) (now bins) × (Coded st fscod) ⌝ }
+    requires { ⌜ (Lent (now latab) (now masktab) (now ends) (now hth) (now points)) × (now shares ≡ tab shareOf 0 256) ⌝ }
+    requires { ⌜ (Held (now exps)) × Memo (now memo) (now exps) (now baps) × (Coded st fscod) × (slot < 7) ⌝ }
     requires { ⌜ (p ≡ paramsFor q fscod) × (silent ≡ silentOf st shape) ⌝ }
-    ensures { λ r. ⌜ (now (bins .exit) ≡ pointedOf (now (bins .entry)) slot
-        (pointersOf st p shape (segmentsBy (now (n .entry)) (now (offset .entry)) (now (len .entry)) (now (ba .entry))) (now (bins .entry)) slot))
-        × Memo (now (memo .exit)) (now (bins .exit)) ⌝ }
+    ensures { λ r. ⌜ (now (baps .exit) ≡ pointedOf (now (baps .entry)) slot
+        (pointersOf st p shape (segmentsBy (now (n .entry)) (now (offset .entry)) (now (len .entry)) (now (ba .entry))) (now (exps .entry)) slot))
+        × Memo (now (memo .exit)) (now (exps .entry)) (now (baps .exit)) ⌝ }
 {
     let c = channel(st, shape, slot, silent);
-    let s = segments_of(n, offset, len, ba, slot);
-    let args = args_of(head_of(st, q, fscod, shape, slot, c, s.n), s);
-    if kept(memo, bins, slot as usize, &args) {
-        return;
-    }
+    let d = segments_of(n, offset, len, ba, slot);
+    let s = source_of(st, q, fscod, shape, slot, c, d);
     let l = leak_for(st, slot);
     let kind = kind_of(shape, slot);
-    renew(
+    let a = 256 * (slot as usize);
+    let e = a + 256;
+    let tally = alloc::allocate(
         latab,
         masktab,
         ends,
         hth,
         points,
-        bins,
-        memo,
-        slot as usize,
-        &args,
+        shares,
+        &exps[a..e],
+        &mut baps[a..e],
         c,
         p,
         l,
-        s,
+        d,
         kind,
     );
+    note(memo, slot as usize, s, tally);
 }
 
-// The pointers of all slots that are asked for. The tables are made once.
+// The first slot whose pointers are asked for and are not kept, or 7.
+fn first_stale(
+    st: AllocState,
+    q: Codes,
+    fscod: u8,
+    shape: Shape,
+    n: &[u8; 6],
+    offset: &[u8; 48],
+    len: &[u8; 48],
+    ba: &[u8; 48],
+    memo: &[u64; 42],
+    silent: bool,
+) -> u8
+    requires { ⌜ (length (now memo) ≡ 42) × (silent ≡ silentOf st shape) ⌝ }
+    ensures { λ r. ⌜ Passes r st (paramsFor q fscod) shape (segmentsBy (now (n .entry)) (now (offset .entry)) (now (len .entry)) (now (ba .entry))) (now (memo .entry)) ⌝ }
+{
+    let mut slot: u8 = 0;
+    while slot < 7 {
+        if stale_at(st, q, fscod, shape, n, offset, len, ba, memo, silent, slot) {
+            return slot;
+        }
+        slot += 1;
+    }
+    slot
+}
+
+// The pointers of the slots from `first` on that are asked for. The tables are laid once.
 fn point_slots(
     st: AllocState,
     q: Codes,
@@ -400,19 +416,23 @@ fn point_slots(
     offset: &[u8; 48],
     len: &[u8; 48],
     ba: &[u8; 48],
-    bins: &mut [u8],
-    memo: &mut [u8; 2128],
+    exps: &[u8; 1792],
+    baps: &mut [u8; 1792],
+    memo: &mut [u64; 42],
+    silent: bool,
+    first: u8,
 )
-    requires { ⌜ (Held (now bins)) × (Coded st fscod) × Memo (now memo) (now bins) ⌝ }
-    ensures { λ r. ⌜ (now (bins .exit)
-        ≡ pointSlots st (paramsFor q fscod) shape (segmentsBy (now (n .entry)) (now (offset .entry)) (now (len .entry)) (now (ba .entry))) (now (bins .entry)) 0 7)
-        × Memo (now (memo .exit)) (now (bins .exit)) ⌝ }
+    requires { ⌜ (Held (now exps)) × (Coded st fscod) × Memo (now memo) (now exps) (now baps) × (silent ≡ silentOf st shape) × (first ≤ 7) ⌝ }
+    ensures { λ r. ⌜ (now (baps .exit)
+        ≡ pointSlots st (paramsFor q fscod) shape (segmentsBy (now (n .entry)) (now (offset .entry)) (now (len .entry)) (now (ba .entry))) (now (exps .entry)) (now (baps .entry)) first (7 - first))
+        × Memo (now (memo .exit)) (now (exps .entry)) (now (baps .exit)) ⌝ }
 {
     let latab = tables::log_add();
     let masktab = tables::masktab();
     let ends = tables::band_end();
     let hth = tables::hearing();
     let points = tables::pointers();
+    let shares = shares();
     let p = alloc::params_of(
         q.sdcycod,
         q.fdcycod,
@@ -421,18 +441,16 @@ fn point_slots(
         q.floorcod,
         fscod as usize,
     );
-    let silent = silent(st, shape);
-    let mut slot: u8 = 0;
+    let mut slot = first;
     while slot < 7 {
-        if requested(shape, slot) {
-            point(
+        if stale_at(st, q, fscod, shape, n, offset, len, ba, memo, silent, slot) {
+            renew(
                 &latab,
                 &masktab,
                 &ends,
                 &hth,
                 &points,
-                bins,
-                memo,
+                &shares,
                 st,
                 q,
                 fscod,
@@ -441,6 +459,9 @@ fn point_slots(
                 offset,
                 len,
                 ba,
+                exps,
+                baps,
+                memo,
                 p,
                 silent,
                 slot,
@@ -460,18 +481,38 @@ pub fn allocate_block<'a>(
     offset: &'a [u8; 48],
     len: &'a [u8; 48],
     ba: &'a [u8; 48],
-    bins: &mut [u8; 3584],
-    memo: &mut [u8; 2128],
+    exps: &[u8; 1792],
+    baps: &mut [u8; 1792],
+    memo: &mut [u64; 42],
 ) -> u8
-    requires { ⌜ (Held (now bins)) × (Coded st fscod) × Memo (now memo) (now bins) ⌝ }
-    ensures { λ r. ⌜ (allocated r (now (bins .exit))
-        ≡ allocatedOf st fscod shape (segmentsBy (now (n .entry)) (now (offset .entry)) (now (len .entry)) (now (ba .entry))) (now (bins .entry)))
-        × Memo (now (memo .exit)) (now (bins .exit)) ⌝ }
+    requires { ⌜ (Held (now exps)) × (Coded st fscod) × Memo (now memo) (now exps) (now baps) ⌝ }
+    ensures { λ r. ⌜ (allocated r (now (baps .exit))
+        ≡ allocatedOf st fscod shape (segmentsBy (now (n .entry)) (now (offset .entry)) (now (len .entry)) (now (ba .entry))) (now (exps .entry)) (now (baps .entry)))
+        × Memo (now (memo .exit)) (now (exps .entry)) (now (baps .exit)) ⌝ }
 {
     let parameters = st.parameters;
     let Parameters::Sent(q) = parameters else {
         return 29;
     };
-    point_slots(st, q, fscod, shape, n, offset, len, ba, bins, memo);
+    let silent = silent(st, shape);
+    let first = first_stale(st, q, fscod, shape, n, offset, len, ba, memo, silent);
+    if 7 <= first {
+        return 0;
+    }
+    point_slots(
+        st,
+        q,
+        fscod,
+        shape,
+        n,
+        offset,
+        len,
+        ba,
+        exps,
+        baps,
+        memo,
+        silent,
+        first,
+    );
     0
 }

@@ -1,66 +1,111 @@
-// What is kept of the last allocation of each slot: 304 bytes, first 48 of arguments, then the 256 exponents.
-// Where both are the same again, so are the pointers.
+// What is kept of the last allocation of each slot: six words. Five say what its pointers were computed from, but for
+// the exponents; the last is the tally of the pointers. The first word is 0 where the slot is stale: its exponents are
+// not those that its pointers were computed from.
+use mantissas::tally::Tally;
+use mantissas::tally::fields;
+use mantissas::tally::tallied;
 ghost use mathlib.Core.Path.{_≡_};
 ghost use mathlib.Core.Bool.{_&&_};
-ghost use Prim.Native.Nat.{_+_, _-_, _*_, _<_, _≤_};
+ghost use mathlib.Core.List.{List, [], _∷_};
+ghost use Prim.Native.Nat.{ℕ, _+_, _-_, _*_, _%_, _/_, _<_, _≤_};
 ghost use lib.Dec.{eqb};
 ghost use lib.ListN.{length, getD};
-ghost use Rattle.alloc.specs.Premises.{Written};
-ghost use Rattle.allocation.specs.Memo.{Alike, Kept, Noted};
+ghost use Rattle.mantissas.specs.Tally.{tallyOf};
+ghost use Rattle.allocation.specs.Memo.{Packs, Kept, Noted, Tallies, staleOf};
 
-fn and_equal(all: bool, a: u8, b: u8) -> bool
-    ensures { λ r. ⌜ r ≡ all && eqb a b ⌝ }
-{
-    all & (a == b)
+// What a slot's pointers are computed from, besides its exponents: words of eight bytes.
+pub struct Source {
+    pub own: u64,
+    pub common: u64,
+    pub offset: u64,
+    pub len: u64,
+    pub ba: u64,
 }
 
-// Whether n entries from i on are those from j on. The loop has no early end, so it runs many entries at once.
-fn alike(a: &[u8], i: usize, b: &[u8], j: usize, n: usize) -> bool
-    requires { ⌜ (i + n ≤ length (now a)) × (j + n ≤ length (now b)) × (i + n ≤ 65536) × (j + n ≤ 65536) ⌝ }
-    ensures { λ r. ⌜ Alike r (now (a .entry)) i (now (b .entry)) j n ⌝ }
+fn wide(x: u8) -> u64
+    ensures { λ r. ⌜ (r ≡ x) × (r < 256) ⌝ }
 {
-    let mut all = true;
-    let mut k: usize = 0;
-    while k < n {
-        let x = i + k;
-        let y = j + k;
-        all = and_equal(all, a[x], b[y]);
-        k += 1;
+    x as u64
+}
+
+// Eight bytes in a word, the first of them the lowest.
+pub fn word(a: u8, b: u8, c: u8, d: u8, e: u8, f: u8, g: u8, h: u8) -> u64
+    ensures { λ r. ⌜ Packs (a ∷ b ∷ c ∷ d ∷ e ∷ f ∷ g ∷ h ∷ []) r ⌝ }
+{
+    let low = wide(a) + 256 * wide(b) + 65536 * wide(c) + 16777216 * wide(d);
+    let high = wide(e) + 256 * wide(f) + 65536 * wide(g) + 16777216 * wide(h);
+    low + 4294967296 * high
+}
+
+pub fn word_of(a: [u8; 8]) -> u64
+    ensures { λ r. ⌜ Packs a r ⌝ }
+{
+    word(a[0], a[1], a[2], a[3], a[4], a[5], a[6], a[7])
+}
+
+fn both(a: bool, b: bool) -> bool
+    ensures { λ r. ⌜ r ≡ a && b ⌝ }
+{
+    a & b
+}
+
+// Whether a slot is kept, and was computed from this.
+pub fn kept(memo: &[u64; 42], slot: usize, s: Source) -> bool
+    requires { ⌜ (length (now memo) ≡ 42) × (slot < 7) ⌝ }
+    ensures { λ r. ⌜ Kept r (now (memo .entry)) slot s ⌝ }
+{
+    let k = 6 * slot;
+    let own = memo[k] == s.own;
+    let common = memo[k + 1] == s.common;
+    let offset = memo[k + 2] == s.offset;
+    let len = memo[k + 3] == s.len;
+    let ba = memo[k + 4] == s.ba;
+    both(both(own, common), both(offset, both(len, ba)))
+}
+
+// Keeps it, and the tally.
+pub fn note(memo: &mut [u64; 42], slot: usize, s: Source, tally: u64)
+    requires { ⌜ (length (now memo) ≡ 42) × (slot < 7) ⌝ }
+    ensures { λ _. ⌜ Noted (now (memo .entry)) (now (memo .exit)) slot s tally ⌝ }
+{
+    let k = 6 * slot;
+    memo[k] = s.own;
+    memo[k + 1] = s.common;
+    memo[k + 2] = s.offset;
+    memo[k + 3] = s.len;
+    memo[k + 4] = s.ba;
+    memo[k + 5] = tally;
+}
+
+// New exponents: the slot is stale, if there is such a slot.
+pub fn stale(memo: &mut [u64; 42], slot: u8)
+    requires { ⌜ length (now memo) ≡ 42 ⌝ }
+    ensures { λ _. ⌜ now (memo .exit) ≡ staleOf (now (memo .entry)) slot ⌝ }
+{
+    if slot < 7 {
+        let k = 6 * (slot as usize);
+        memo[k] = 0;
     }
-    all
 }
 
-// Writes values from `at` on.
-pub fn fill(out: &mut [u8], at: usize, vs: &[u8])
-    requires { ⌜ (at + length (now vs) ≤ length (now out)) × (length (now out) ≤ 65536) ⌝ }
-    ensures { λ _. ⌜ Written (λ k. getD (now (vs .entry)) (k - at) 0) at (at + length (now (vs .entry))) (now (out .entry)) (now (out .exit)) ⌝ }
+// Whether a word says this range, of a slot that is not stale.
+fn ranged(own: u64, start: u16, end: u16) -> bool
+    ensures { λ r. ⌜ r ≡ eqb (own / 65536 % 16777216) (start + 65536 * end) ⌝ }
 {
-    let mut i: usize = 0;
-    while i < vs.len() {
-        let k = at + i;
-        out[k] = vs[i];
-        i += 1;
+    own / 65536 % 16777216 == start as u64 + 65536 * (end as u64)
+}
+
+// The tally of the bins `start` to `end` - 1 of a slot: the one that is kept, or else it is counted.
+pub fn tally_at(memo: &[u64; 42], baps: &[u8; 1792], slot: u8, start: u16, end: u16) -> Tally
+    requires { ⌜ (Tallies (now memo) (now baps)) × (slot < 7) × (end ≤ 253) ⌝ }
+    ensures { λ r. ⌜ r ≡ tallyOf (now (baps .entry)) slot start (end - start) ⌝ }
+{
+    let k = 6 * (slot as usize);
+    let own = memo[k];
+    if own != 0 {
+        if ranged(own, start, end) {
+            return fields(memo[k + 5]);
+        }
     }
-}
-
-// Whether these arguments and the slot's exponents are those that are kept.
-pub fn kept(memo: &[u8; 2128], bins: &[u8], slot: usize, args: &[u8; 48]) -> bool
-    requires { ⌜ (length (now memo) ≡ 2128) × (length (now bins) ≡ 3584) × (length (now args) ≡ 48) × (slot < 7) ⌝ }
-    ensures { λ r. ⌜ Kept r (now (memo .entry)) (now (bins .entry)) slot (now (args .entry)) ⌝ }
-{
-    let base = 304 * slot;
-    if !alike(memo, base, args, 0, 48) {
-        return false;
-    }
-    alike(memo, base + 48, bins, 256 * slot, 256)
-}
-
-// Keeps them.
-pub fn note(memo: &mut [u8; 2128], slot: usize, args: &[u8; 48], exps: &[u8; 256])
-    requires { ⌜ (length (now memo) ≡ 2128) × (length (now args) ≡ 48) × (length (now exps) ≡ 256) × (slot < 7) ⌝ }
-    ensures { λ _. ⌜ Noted (now (memo .entry)) (now (memo .exit)) slot (now (args .entry)) (now (exps .entry)) ⌝ }
-{
-    let base = 304 * slot;
-    fill(memo, base, args);
-    fill(memo, base + 48, exps);
+    tallied(baps, slot, start, end)
 }

@@ -16,6 +16,7 @@ use Rattle.reading.specs.Room.{Room, Out, got, size, pushed, record-in, exec}
 use Rattle.reading.specs.Frame.{plain, ending, tail as tailOf}
 use Rattle.reading.proofs.Trees.{bind-assoc}
 use Rattle.names.specs.Names.{auxbits, auxdatae, auxdatal, crc2, encinfo}
+use Rattle.slots.specs.Held.{Bins}
 use Rattle.cells.specs.Cells.{State, state, cellOf, putIn, stored, addr, placeOf, heldOf, partOf}
 use Rattle.cells.specs.Names.{AFTER-AUDIO, AFTER-AUXDATAE, AUXDATAE, AUXDATAL, BLOCK, FRAME-END, WIDTH}
 use Rattle.cells.proofs.Cells.{put-sized, cell-same, cell-other}
@@ -122,7 +123,7 @@ module _ (s : List ℕ) (l v : ℕ) (a : State) (fits : l < 65536) where
   unfolding meaning
   joined i b c st p n r = ap (λ (t : Tree State). exec s l t p n r) (bind-assoc (item i st) (λ x. meaning b x) (λ x. meaning c x >>= K))
 
-  closes : (m b : List ℕ) → Outside m l v → (p n : ℕ) (r : Room) → runs closing (state m b) p n r ≡ exec s l (ending tailNames a) p n r
+  closes : (m : List ℕ) (b : Bins) → Outside m l v → (p n : ℕ) (r : Room) → runs closing (state m b) p n r ≡ exec s l (ending tailNames a) p n r
   unfolding meaning item _>>=_ ending putIn cellOf
   closes m b o p n r =
       ap (λ (q : ℕ → Part). exec s l (read (q auxdatae) 1 λ _. read (q encinfo) 1 λ _. read (q crc2) 16 λ _. done a) p n r) (fun-ext (λ x. part-plain x m (o .block)))
@@ -132,7 +133,7 @@ module _ (s : List ℕ) (l v : ℕ) (a : State) (fits : l < 65536) where
   at-end f st p n r = refl
 
   -- after auxbits: the other way is passed, and the tail closes
-  module _ (m b : List ℕ) (o : Outside m l v) where
+  module _ (m : List ℕ) (b : Bins) (o : Outside m l v) where
     -- where auxdatae is 1
     second-off : v ≡ 1 → (p n : ℕ) (r : Room) → runs (when (Not (cell AUXDATAE) 1) short ⨾ closing) (state m b) p n r ≡ exec s l (ending tailNames a) p n r
     second-off e p n r =
@@ -142,7 +143,7 @@ module _ (s : List ℕ) (l v : ℕ) (a : State) (fits : l < 65536) where
         ∙ closes m b o p n r
 
   -- auxbits of a width that a cell holds
-  passes : (m b : List ℕ) (w : ℕ) → Outside m l v → cellOf m WIDTH ≡ w → (f : State → Tree State) (u : Tree State) (p n : ℕ) (r : Room)
+  passes : (m : List ℕ) (b : Bins) (w : ℕ) → Outside m l v → cellOf m WIDTH ≡ w → (f : State → Tree State) (u : Tree State) (p n : ℕ) (r : Room)
       → ((i : ℕ) (x : Room) → exec s l (f (state m b)) (p + w) i x ≡ exec s l u (p + w) i x)
       → exec s l (item (span auxbits WIDTH) (state m b) >>= f) p n r ≡ exec s l (spanned (plain auxbits) w u) p n r
   unfolding item _>>=_
@@ -152,7 +153,7 @@ module _ (s : List ℕ) (l v : ℕ) (a : State) (fits : l < 65536) where
       ∙ same-span s l (plain auxbits) w (f (state m b)) u p n r h
 
   -- with the bits after the audio known
-  module _ (m b : List ℕ) (o : Outside m l v) (p : ℕ) (left : cellOf m AFTER-AUDIO ≡ l - p) (stop : cellOf m AFTER-AUXDATAE ≡ l - 17) (enough : p + 18 ≤ l) where
+  module _ (m : List ℕ) (b : Bins) (o : Outside m l v) (p : ℕ) (left : cellOf m AFTER-AUDIO ≡ l - p) (stop : cellOf m AFTER-AUXDATAE ≡ l - 17) (enough : p + 18 ≤ l) where
     abbrev wide : ℕ → List ℕ
     wide k = putIn m WIDTH (1 * heldOf (cell AFTER-AUDIO) m - k)
 
@@ -280,7 +281,7 @@ module _ (s : List ℕ) (l v : ℕ) (a : State) (fits : l < 65536) where
             rw (lt-ltb (l - p) 32 (omega arith), lt-leb (p + 32) l (omega arith)) (ap (λ (y : ℕ). got {A = State} (refused 31) y n r) z)
 
   -- the whole: cells with the end of the frame, and auxdatae looked at ahead
-  module _ (m b : List ℕ) (o : Outside m l v) (p : ℕ) (small : p < 65536) where
+  module _ (m : List ℕ) (b : Bins) (o : Outside m l v) (p : ℕ) (small : p < 65536) where
     abbrev here-is : List ℕ
     here-is = putIn m AFTER-AUDIO p
 

@@ -7,6 +7,7 @@ use Rattle.reading.specs.Run.{Result, accepted, refused, run}
 use Rattle.reading.specs.Frame.{parse}
 use Rattle.tables.specs.Bands.{bandOf}
 use Rattle.alloc.specs.Allocation.{snroffset}
+use Rattle.slots.specs.Held.{bins}
 use Rattle.cells.specs.Cells.{State, state, cellOf, putIn}
 use Rattle.cells.specs.Names.{CHEXPSTR, CPL-SUBND-END, CPLEND, CPLINUS, CPLSTRE, CPLSTRT, ENDMANT, FRMSIZ, NCPLSUBND, NFCHANS, NUMBLKS, SPXINU, WIDTH}
 use Rattle.derivations.specs.Frames.{blkstrtinfoBy}
@@ -37,7 +38,7 @@ heldAfter (accepted st) f = pos 0 ∷ f (st .cells)
 heldAfter (refused n) f = pos n ∷ []
 
 abbrev pub part : Block → List ℕ → List ℕ → (List ℕ → List ℤ) → List ℤ
-part b m s f = heldAfter (run (meaning b (state m [])) s 0 (8 * length s) .result) f
+part b m s f = heldAfter (run (meaning b (state m (bins [] []))) s 0 (8 * length s) .result) f
 
 -- block 0 with coupling, and spectral extension from its first sub-band; the bits are ecplinu, cplbegf and cplbndstrce
 abbrev pub coupled : List ℕ

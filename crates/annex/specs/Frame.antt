@@ -5,6 +5,7 @@ use lib.ListN.{replicate}
 use Rattle.bits.specs.Bits.{bitsAt}
 use Rattle.names.specs.Names.{auxbits, auxdatal, auxdatae, encinfo, crc2}
 use Rattle.reading.specs.Frame.{TailNames, Format}
+use Rattle.slots.specs.Held.{bins}
 use Rattle.cells.specs.Cells.{State, state, cellOf}
 use Rattle.cells.specs.Names.{FRMSIZ}
 use Rattle.rows.specs.Syntax.{meaning}
@@ -12,7 +13,7 @@ use Rattle.annex.specs.Annex.{header, body}
 
 -- nothing is read yet
 unfoldable pub start : State
-start = state (replicate 1024 0) (replicate 3584 0)
+start = state (replicate 1024 0) (bins (replicate 1792 0) (replicate 1792 0))
 
 abbrev pub tailNames : TailNames
 tailNames = record { auxbits = auxbits; auxdatal = auxdatal; auxdatae = auxdatae; reserved = encinfo; crc2 = crc2 }

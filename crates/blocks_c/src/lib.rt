@@ -41,16 +41,16 @@ pub extern "C" fn blocks_first(slot: u8, start: u16) -> u16
 }
 
 #[no_mangle]
-pub extern "C" fn blocks_put(bins: &mut [u8; 3584], slot: u8, bin: u32, e: u8)
-    requires { ⌜ length (now bins) ≡ 3584 ⌝ }
-    ensures { λ r. ⌜ now (bins .exit) ≡ putOf (now (bins .entry)) slot bin e ⌝ }
+pub extern "C" fn blocks_put(exps: &mut [u8; 1792], slot: u8, bin: u32, e: u8)
+    requires { ⌜ length (now exps) ≡ 1792 ⌝ }
+    ensures { λ r. ⌜ now (exps .exit) ≡ putOf (now (exps .entry)) slot bin e ⌝ }
 {
-    exponents::put(bins, slot, bin, e);
+    exponents::put(exps, slot, bin, e);
 }
 
 #[no_mangle]
 pub extern "C" fn blocks_lay(
-    bins: &mut [u8; 3584],
+    exps: &mut [u8; 1792],
     slot: u8,
     strategy: u8,
     bin: u16,
@@ -58,10 +58,10 @@ pub extern "C" fn blocks_lay(
     b: u8,
     c: u8,
 )
-    requires { ⌜ length (now bins) ≡ 3584 ⌝ }
-    ensures { λ r. ⌜ now (bins .exit) ≡ laidOf (now (bins .entry)) slot (sizeOf strategy) bin a b c ⌝ }
+    requires { ⌜ length (now exps) ≡ 1792 ⌝ }
+    ensures { λ r. ⌜ now (exps .exit) ≡ laidOf (now (exps .entry)) slot (sizeOf strategy) bin a b c ⌝ }
 {
-    exponents::lay(bins, slot, strategy, bin as u32, a, b, c);
+    exponents::lay(exps, slot, strategy, bin as u32, a, b, c);
 }
 
 fn wide(x: u8) -> u32
@@ -98,7 +98,7 @@ fn eight(refused: bool) -> u8 {
 // The three counts come in and go out.
 #[no_mangle]
 pub extern "C" fn blocks_conventional(
-    bins: &[u8; 3584],
+    baps: &[u8; 1792],
     slot: u8,
     start: u16,
     end: u16,
@@ -108,11 +108,11 @@ pub extern "C" fn blocks_conventional(
     at: u16,
     limit: u16,
 ) -> u64
-    requires { ⌜ (length (now bins) ≡ 3584) × (slot < 7) × (end ≤ 256) ⌝ }
-    ensures { λ r. ⌜ PassedOutcome r (λ s. skim (conventionalOf (now (bins .entry)) slot start (end - start) (record { g1 = g1; g2 = g2; g4 = g4 })) s at limit) ⌝ }
+    requires { ⌜ (length (now baps) ≡ 1792) × (slot < 7) × (end ≤ 256) ⌝ }
+    ensures { λ r. ⌜ PassedOutcome r (λ s. skim (conventionalOf (now (baps .entry)) slot start (end - start) (record { g1 = g1; g2 = g2; g4 = g4 })) s at limit) ⌝ }
 {
     let p = mantissas::conventional(
-        bins,
+        baps,
         slot,
         start,
         end,
@@ -132,17 +132,17 @@ pub extern "C" fn blocks_conventional(
 #[no_mangle]
 pub extern "C" fn blocks_aht(
     src: &[u8],
-    bins: &[u8; 3584],
+    baps: &[u8; 1792],
     slot: u8,
     start: u16,
     end: u16,
     at: u16,
     limit: u16,
 ) -> u64
-    requires { ⌜ (length (now bins) ≡ 3584) × (slot < 7) × (end ≤ 256) × (limit ≤ 8 * length (now src)) ⌝ }
-    ensures { λ r. ⌜ TagsOutcome r (skim (ahtOf (now (bins .entry)) slot start (end - start)) (now (src .entry)) at limit) ⌝ }
+    requires { ⌜ (length (now baps) ≡ 1792) × (slot < 7) × (end ≤ 256) × (limit ≤ 8 * length (now src)) ⌝ }
+    ensures { λ r. ⌜ TagsOutcome r (skim (ahtOf (now (baps .entry)) slot start (end - start)) (now (src .entry)) at limit) ⌝ }
 {
-    let t = hybrid::aht(src, bins, slot, start, end, at, limit);
+    let t = hybrid::aht(src, baps, slot, start, end, at, limit);
     pack(t.number, t.place, t.tags, 0, 0)
 }
 
@@ -184,13 +184,14 @@ pub extern "C" fn blocks_allocate<'a>(
     offset: &'a [u8; 48],
     len: &'a [u8; 48],
     ba: &'a [u8; 48],
-    bins: &mut [u8; 3584],
+    exps: &[u8; 1792],
+    baps: &mut [u8; 1792],
 ) -> u8
-    requires { ⌜ (Held (now bins)) × (cplfleak < 8) × (cplsleak < 8) × (fscod < 3) ⌝ }
-    ensures { λ r. ⌜ allocated r (now (bins .exit))
+    requires { ⌜ (Held (now exps)) × (length (now baps) ≡ 1792) × (cplfleak < 8) × (cplsleak < 8) × (fscod < 3) ⌝ }
+    ensures { λ r. ⌜ allocated r (now (baps .exit))
         ≡ allocatedOf (stateOf (sentOf sent (now (codes .entry))) csnroffst (now (fsnroffst .entry)) (now (fgaincod .entry)) cplfleak cplsleak) fscod
         (shapeOf nfchans lfeon cplinu (now (ahtinu .entry)) (now (ahtread .entry)) (now (endmant .entry)) cplstrt cplend)
-        (segmentsBy (now (n .entry)) (now (offset .entry)) (now (len .entry)) (now (ba .entry))) (now (bins .entry)) ⌝ }
+        (segmentsBy (now (n .entry)) (now (offset .entry)) (now (len .entry)) (now (ba .entry))) (now (exps .entry)) (now (baps .entry)) ⌝ }
 {
     let c = *codes;
     let f = *fsnroffst;
@@ -218,6 +219,6 @@ pub extern "C" fn blocks_allocate<'a>(
         cplstrt: cplstrt,
         cplend: cplend,
     };
-    let mut memo = [0u8; 2128];
-    allocation::allocate_block(st, fscod, shape, n, offset, len, ba, bins, &mut memo)
+    let mut memo = [0u64; 42];
+    allocation::allocate_block(st, fscod, shape, n, offset, len, ba, exps, baps, &mut memo)
 }

@@ -6,13 +6,14 @@ use lib.Dec.{eqb}
 use lib.IntN.{ℤ, pos, negsuc}
 use lib.ListN.{set, getD}
 use Rattle.reading.specs.Tree.{Part}
+use Rattle.slots.specs.Held.{Bins}
 use Rattle.cells.specs.Names.{BLOCK}
 
 pub record State : Type 0 where
   pub cells : List ℕ
-  pub bins : List ℕ
+  pub bins : Bins
 
-abbrev pub state : List ℕ → List ℕ → State
+abbrev pub state : List ℕ → Bins → State
 state m b = record { cells = m; bins = b }
 
 -- a cell holds a number of 16 bits. Cell 0 holds 0 for ever, so that 0 stands for no cell; there are 1,024 of them

@@ -6,6 +6,7 @@ use mathlib.Core.List.{List}
 use native.Mathlib.Numerals.{add-one}
 use native.Mathlib.Decide.{decLt}
 use native.Mathlib.Omega.{arith}
+use Rattle.slots.specs.Held.{Bins}
 use Rattle.cells.specs.Cells.{state}
 use Rattle.derivations.specs.Acted.{acted}
 use Rattle.derivations.specs.Blocks.{unknownOf, unknownIn, unknownHere, endmantsBy}
@@ -35,7 +36,7 @@ unknown-some m k (suc n) l e = go (decLt k n) (λ h. unknown-some m k n h e)
     go (no h) r = let z : n ≡ k = omega arith in rw (z, e) (or-true (unknownIn m k))
 
 -- the ends, or 23
-pub endmants-are : (m y b : List ℕ) (r : ℕ) → r ≡ cond (unknownHere m) 23 0 → y ≡ cond (unknownHere m) m (endmantsBy m) → acted r (state y b) ≡ endmantsIn (state m b)
+pub endmants-are : (m y : List ℕ) (b : Bins) (r : ℕ) → r ≡ cond (unknownHere m) 23 0 → y ≡ cond (unknownHere m) m (endmantsBy m) → acted r (state y b) ≡ endmantsIn (state m b)
 unfolding endmantsIn
 endmants-are m y b r er ey = rw (er, ey) (go (unknownHere m))
   where

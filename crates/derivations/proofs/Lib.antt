@@ -2,4 +2,3 @@ pub mod StepLaws
 pub mod FrameLaws
 pub mod BlockLaws
 pub mod AllocLaws
-pub mod Allocated

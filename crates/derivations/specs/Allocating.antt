@@ -10,6 +10,7 @@ use Rattle.allocation.specs.declared.Parameters.{Parameters}
 use Rattle.allocation.specs.declared.Parameters.the-variants.{NeverSent, Sent}
 use Rattle.allocation.specs.declared.AllocState.{AllocState}
 use Rattle.allocation.specs.declared.Segments.{Segments}
+use Rattle.slots.specs.Held.{bins}
 use Rattle.cells.specs.Cells.{State, state, cellOf, putIn}
 use Rattle.derivations.specs.Steps.{eachOf, tabOf}
 use Rattle.derivations.specs.Acted.{Acted, acted}
@@ -90,5 +91,5 @@ defaultsBy m = putAll m BAI-SENT (sentOf (Sent (record { sdcycod = 2; fdcycod = 
 -- the pointers of the block, or 29
 unfoldable pub allocateIn : State → Acted
 allocateIn st =
-    let o = allocatedOf (allocStateOf (st .cells)) (cellOf (st .cells) FSCOD % 3) (shapeOf (st .cells)) (segmentsIn (st .cells)) (st .bins) in
-    acted (o .number) (state (st .cells) (o .bins))
+    let o = allocatedOf (allocStateOf (st .cells)) (cellOf (st .cells) FSCOD % 3) (shapeOf (st .cells)) (segmentsIn (st .cells)) (st .bins .exps) (st .bins .baps) in
+    acted (o .number) (state (st .cells) (bins (st .bins .exps) (o .baps)))

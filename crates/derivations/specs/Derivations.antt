@@ -4,7 +4,6 @@ use mathlib.Core.Path.{_≡_}
 use mathlib.Core.Bool.{cond}
 use mathlib.Core.List.{List}
 use lib.Dec.{eqb}
-use Rattle.slots.specs.Held.{Held}
 use Rattle.allocation.specs.Memo.{Memo}
 use Rattle.cells.specs.Cells.{State, state}
 use Rattle.derivations.specs.Acted.{Acted, acted}
@@ -109,8 +108,7 @@ derived k st =
     (cond (eqb k AhtRead) (puts ahtReadBy st)
     (acted 0 st)))))))))))))))))
 
--- what the code says of a derivation: it is that of the definition, and what is kept of the bins and of the last allocation stays right
+-- what the code says of a derivation: it is that of the definition, and what is kept of the last allocation stays right
 pub record Derives (k number : ℕ) (before after : State) (memo : List ℕ) : Type 0 where
   pub is : acted number after ≡ derived k before
-  pub held : Held (after .bins)
-  pub right : Memo memo (after .bins)
+  pub right : Memo memo (after .bins .exps) (after .bins .baps)

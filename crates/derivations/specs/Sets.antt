@@ -6,6 +6,7 @@ use mathlib.Core.List.{List}
 use lib.Dec.{eqb}
 use Rattle.reading.specs.Tree.{Part, Tree, done, _>>=_}
 use Rattle.slots.specs.Slots.{CPL, LFE}
+use Rattle.slots.specs.Held.{bins}
 use Rattle.exponents.specs.Set.{setOf}
 use Rattle.cells.specs.Cells.{State, state, cellOf}
 use Rattle.cells.specs.Names.{ABSEXP, BLK, CHEXPSTR, CPLEND, CPLEXPSTR, CPLSTRT, ENDMANT}
@@ -25,4 +26,4 @@ endOf m slot = cond (eqb slot CPL) (cellOf m CPLEND) (cond (eqb slot LFE) 7 (cel
 unfoldable pub exponentsOf : Part → ℕ → State → Tree State
 exponentsOf q slot st =
     let m = st .cells in
-    setOf q slot (strategyOf m slot % 256) (startOf m slot) (endOf m slot) (cellOf m ABSEXP % 16) (st .bins) >>= (λ b. done (state m b))
+    setOf q slot (strategyOf m slot % 256) (startOf m slot) (endOf m slot) (cellOf m ABSEXP % 16) (st .bins .exps) >>= (λ e. done (state m (bins e (st .bins .baps))))

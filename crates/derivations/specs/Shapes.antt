@@ -32,4 +32,4 @@ shapeOf m = record {
 
 -- the mantissas of the block (A/52 clause 5.3.3, TS 102 366 clauses 4.3.3 and E.1.2.4)
 unfoldable pub mantissasIn : State → Skim (List ℕ)
-mantissasIn st = mantissasOf (st .bins) (shapeOf (st .cells))
+mantissasIn st = mantissasOf (st .bins .baps) (shapeOf (st .cells))

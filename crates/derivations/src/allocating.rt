@@ -1,8 +1,11 @@
 // The state of bit allocation and the delta segments in the cells, and the derivations on them.
 ghost use mathlib.Core.Path.{_≡_};
-ghost use Prim.Native.Nat.{_%_, _≤_, _<_};
-ghost use lib.ListN.{length};
-ghost use Rattle.slots.specs.Held.{Held};
+ghost use mathlib.Core.Bool.{true, _&&_};
+ghost use Prim.Native.Nat.{ℕ, _%_, _≤_, _<_};
+ghost use lib.Dec.{eqb};
+ghost use lib.ListN.{length, getD};
+ghost use Rattle.slots.specs.Held.{bins, Held};
+ghost use Rattle.allocation.specs.State.{segmentsOf, Alike};
 ghost use Rattle.allocation.specs.Memo.{Memo};
 ghost use Rattle.cells.specs.Cells.{state, cellOf};
 ghost use Rattle.derivations.specs.Acted.{acted};
@@ -160,10 +163,40 @@ fn alloc_state_of(cells: &[u16; 1024]) -> AllocState
     }
 }
 
+fn zero(all: bool, x: u8) -> bool
+    ensures { λ r. ⌜ r ≡ all && eqb x 0 ⌝ }
+{
+    all & (x == 0)
+}
+
+// Whether no slot has segments.
+fn none(n: &[u8; 6]) -> bool
+    ensures { λ r. ⌜ (r ≡ true → (k : ℕ) → k < 6 → getD (now (n .entry)) k 0 ≡ 0) ⌝ }
+{
+    let a = zero(true, n[0]);
+    let b = zero(a, n[1]);
+    let c = zero(b, n[2]);
+    let d = zero(c, n[3]);
+    let e = zero(d, n[4]);
+    zero(e, n[5])
+}
+
+// The segments; where no slot has any, their fields are not looked at.
 fn segments_in(cells: &[u16; 1024]) -> Segments
-    ensures { λ r. ⌜ r ≡ segmentsIn (now (cells .entry)) ⌝ }
+    ensures { λ r. ⌜ ((slot : ℕ) → Alike (segmentsOf r slot) (segmentsOf (segmentsIn (now (cells .entry))) slot)) ⌝ }
 {
     let n = six_bytes(cells, DELTNSEG);
+    if none(&n) {
+        let offset = [0; 48];
+        let len = [0; 48];
+        let ba = [0; 48];
+        return Segments {
+            n: n,
+            offset: offset,
+            len: len,
+            ba: ba,
+        };
+    }
     let offset = many_bytes(cells, DELTOFFST);
     let len = many_bytes(cells, DELTLEN);
     let ba = many_bytes(cells, DELTBA);
@@ -232,13 +265,30 @@ pub fn defaults(cells: &mut [u16; 1024])
 }
 
 // The pointers of the block.
-pub fn allocate_in(cells: &[u16; 1024], bins: &mut [u8; 3584], memo: &mut [u8; 2128]) -> u8
-    requires { ⌜ (Held (now bins)) × Memo (now memo) (now bins) ⌝ }
-    ensures { λ r. ⌜ (acted r (state (now (cells .entry)) (now (bins .exit))) ≡ allocateIn (state (now (cells .entry)) (now (bins .entry)))) × Memo (now (memo .exit)) (now (bins .exit)) ⌝ }
+pub fn allocate_in(
+    cells: &[u16; 1024],
+    exps: &[u8; 1792],
+    baps: &mut [u8; 1792],
+    memo: &mut [u64; 42],
+) -> u8
+    requires { ⌜ (Held (now exps)) × Memo (now memo) (now exps) (now baps) ⌝ }
+    ensures { λ r. ⌜ (acted r (state (now (cells .entry)) (bins (now (exps .entry)) (now (baps .exit)))) ≡ allocateIn (state (now (cells .entry)) (bins (now (exps .entry)) (now (baps .entry)))))
+        × Memo (now (memo .exit)) (now (exps .entry)) (now (baps .exit)) ⌝ }
 {
     let fscod = rate(cell_of(cells, FSCOD));
     let st = alloc_state_of(cells);
     let shape = shape_of(cells);
     let d = segments_in(cells);
-    allocate_block(st, fscod, shape, &d.n, &d.offset, &d.len, &d.ba, bins, memo)
+    allocate_block(
+        st,
+        fscod,
+        shape,
+        &d.n,
+        &d.offset,
+        &d.len,
+        &d.ba,
+        exps,
+        baps,
+        memo,
+    )
 }

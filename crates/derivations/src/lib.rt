@@ -7,7 +7,7 @@ pub mod sets;
 pub mod shapes;
 
 ghost use mathlib.Core.Path.{_≡_};
-ghost use Rattle.slots.specs.Held.{Held};
+ghost use Rattle.slots.specs.Held.{bins, Held};
 ghost use Rattle.allocation.specs.Memo.{Memo};
 ghost use Rattle.cells.specs.Cells.{state};
 ghost use Rattle.derivations.specs.Derivations.{Derives};
@@ -30,9 +30,15 @@ use crate::frames::numblks;
 use crate::frames::regions;
 
 // The derivation k: 0, or a refusal's number.
-pub fn derive(k: u8, cells: &mut [u16; 1024], bins: &mut [u8; 3584], memo: &mut [u8; 2128]) -> u8
-    requires { ⌜ (Held (now bins)) × Memo (now memo) (now bins) ⌝ }
-    ensures { λ r. ⌜ Derives k r (state (now (cells .entry)) (now (bins .entry))) (state (now (cells .exit)) (now (bins .exit))) (now (memo .exit)) ⌝ }
+pub fn derive(
+    k: u8,
+    cells: &mut [u16; 1024],
+    exps: &[u8; 1792],
+    baps: &mut [u8; 1792],
+    memo: &mut [u64; 42],
+) -> u8
+    requires { ⌜ (Held (now exps)) × Memo (now memo) (now exps) (now baps) ⌝ }
+    ensures { λ r. ⌜ Derives k r (state (now (cells .entry)) (bins (now (exps .entry)) (now (baps .entry)))) (state (now (cells .exit)) (bins (now (exps .entry)) (now (baps .exit)))) (now (memo .exit)) ⌝ }
 {
     match k {
         1 => numblks(cells),
@@ -50,7 +56,7 @@ pub fn derive(k: u8, cells: &mut [u16; 1024], bins: &mut [u8; 3584], memo: &mut 
         13 => nrematbd(cells),
         14 => return endmants_in(cells),
         15 => defaults(cells),
-        16 => return allocate_in(cells, bins, memo),
+        16 => return allocate_in(cells, exps, baps, memo),
         17 => aht_read(cells),
         _ => {}
     }

@@ -1,9 +1,12 @@
 // What the cells say of a block: its channels, ranges and slots.
 ghost use mathlib.Core.Path.{_≡_};
-ghost use Prim.Native.Nat.{_*_, _≤_, _%_};
+ghost use mathlib.Core.List.{List};
+ghost use Prim.Native.Nat.{ℕ, _*_, _≤_, _%_};
 ghost use lib.ListN.{length};
 ghost use Rattle.reading.specs.Run.{skim};
 ghost use Rattle.plan.specs.Taken.{taken};
+ghost use Rattle.slots.specs.Held.{bins};
+ghost use Rattle.allocation.specs.Memo.{Tallies};
 ghost use Rattle.cells.specs.Cells.{state};
 ghost use Rattle.derivations.specs.Shapes.{flagsOf, valuesOf, shapeOf, mantissasIn};
 use crate::flags::flag;
@@ -113,12 +116,13 @@ pub fn shape_of(cells: &[u16; 1024]) -> Shape
 pub fn mantissas_in(
     src: &[u8],
     cells: &[u16; 1024],
-    bins: &[u8; 3584],
+    baps: &[u8; 1792],
+    memo: &[u64; 42],
     at: BitPlace,
     limit: BitPlace,
 ) -> Taken
-    requires { ⌜ (length (now bins) ≡ 3584) × (limit .0 ≤ 8 * length (now src)) ⌝ }
-    ensures { λ r. ⌜ taken r ≡ skim (mantissasIn (state (now (cells .entry)) (now (bins .entry)))) (now (src .entry)) (at .0) (limit .0) ⌝ }
+    requires { ⌜ (Tallies (now memo) (now baps)) × (limit .0 ≤ 8 * length (now src)) ⌝ }
+    ensures { λ r. ⌜ ((exps : List ℕ) → taken r ≡ skim (mantissasIn (state (now (cells .entry)) (bins exps (now (baps .entry))))) (now (src .entry)) (at .0) (limit .0)) ⌝ }
 {
-    mantissas(src, bins, shape_of(cells), at, limit)
+    mantissas(src, baps, memo, shape_of(cells), at, limit)
 }

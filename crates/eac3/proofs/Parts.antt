@@ -1,34 +1,39 @@
 -- The parts of the entry, one after another, are the definition. Assumes nothing.
 use mathlib.Core.Path.{_≡_, refl, ap, sym, _∙_}
-use mathlib.Core.Bool.{Bool, true, false, cond}
+use mathlib.Core.Bool.{Bool, true, false, cond, not}
 use mathlib.Core.List.{List, []}
 use Prim.Native.Nat.{ℕ, _+_, _-_, _*_, _%_, _≤_, _<_, min}
 use native.Mathlib.Omega.{arith}
 use native.Mathlib.Nat.{add-zero}
+use lib.Dec.{leb, eqb}
 use lib.ListN.{length, getD, replicate, getD-replicate, length-replicate}
-use borrow.Author.Tests.{le-leb, lt-leb}
+use borrow.Author.Tests.{le-leb, lt-leb, ne-eqb}
 use Rattle.bits.specs.Bits.{bitsAt}
 use Rattle.bits.proofs.BitLaws.{bitsAt-lt}
 use Rattle.reading.specs.Tree.{Tree, done, _>>=_}
-use Rattle.reading.specs.Run.{accepted, refused, Outcome, out, after, run}
-use Rattle.reading.specs.Frame.{tail as tailOf, finish, framed, sized, parse}
-use Rattle.reading.specs.Room.{Room, size, cut, fill, Out, got, into, exec}
+use Rattle.reading.specs.Run.{Field, fieldOf, accepted, refused, Outcome, out, after, run}
+use Rattle.reading.specs.Frame.{plain, tail as tailOf, finish, framed, sized, parse}
+use Rattle.reading.specs.Room.{Room, size, pushed, cut, fill, Out, got, into, record-in, exec}
 use Rattle.reading.proofs.Rooms.{cut-same, go-on, _then_, exec-bind, exec-is, into-after}
-use Rattle.syntax.specs.Records.{outcome, haltedAt}
+use Rattle.syntax.specs.Records.{outcome, haltedAt, keepOf}
 use Rattle.syntax.specs.Rooms.{Fills}
 use Rattle.syntax.specs.declared.Cursor.{Cursor}
-use Rattle.slots.specs.Held.{Held}
-use Rattle.cells.specs.Cells.{State, state, cellOf, putIn}
+use Rattle.names.specs.Names.{syncword}
+use Rattle.slots.specs.Held.{Bins}
+use Rattle.allocation.proofs.MemoLaws.{memo-fresh}
+use Rattle.rows.specs.Reads.{Right}
+use Rattle.cells.specs.Cells.{State, state, Addr, Sum, cellOf, putIn, placeOf, partOf}
 use Rattle.cells.specs.Names.{AUXDATAE, BLOCK, FRAME-END, FRMSIZ}
 use Rattle.cells.proofs.Cells.{put-sized, cell-same, cell-other, cell-none}
-use Rattle.rows.specs.Syntax.{meaning}
+use Rattle.rows.specs.Syntax.{Cond, holdsOf, Block, _⨾_, element, reject, item, meaning}
+use Rattle.annex.specs.Syncinfo.{syncinfo}
 use Rattle.annex.specs.Annex.{header, body}
 use Rattle.annex.specs.Tail.{tail}
 use Rattle.annex.specs.Frame.{start, tailNames, bytesOf, eac3}
 use Rattle.annex.proofs.Header.{frmsiz-is}
 use Rattle.annex.proofs.Tails.{Outside, rows-tail}
-use Rattle.eac3.specs.Answer.{answered, answerBy, answerOf, Called, answerFrom}
-use Rattle.eac3.specs.Parts.{placed, followed, readOf}
+use Rattle.eac3.specs.Answer.{answered, answerBy, answerOf, Called, refusalFrom, answerFrom}
+use Rattle.eac3.specs.Parts.{placed, followed, stoppedBy, readOf}
 use Rattle.eac3.specs.declared.answer.Answer.{Answer}
 
 followed-then : (c : Cursor) (st : State) (m : Room) (f : State → ℕ → Outcome State)
@@ -97,7 +102,7 @@ module _ (s : List ℕ) (l p : ℕ) (fits : l < 65536) (small : p < 65536) where
         ahead = cell-same _ AUXDATAE _ g (λ e. omega arith) ∙ omega arith;
       }
 
-  pub tail-outcome : (q : ℕ) → q ≡ p → (b : List ℕ) (n : ℕ) (m : Room) (r : Cursor) (st x : State) (mu : Room) (cells : List ℕ) → cells ≡ ends
+  pub tail-outcome : (q : ℕ) → q ≡ p → (b : Bins) (n : ℕ) (m : Room) (r : Cursor) (st x : State) (mu : Room) (cells : List ℕ) → cells ≡ ends
       → outcome r x mu ≡ exec s l (meaning tail (state cells b)) q n m → outcome r st mu ≡ placed n m (finish tailNames s l st p)
   unfolding finish
   tail-outcome q eq b n m r st x mu cells ec e =
@@ -106,11 +111,14 @@ module _ (s : List ℕ) (l p : ℕ) (fits : l < 65536) (small : p < 65536) where
       ∙ rows-tail s l (bitsAt s (l - 18) 1) st fits ends b outside p small n m
       ∙ exec-is s l (tailOf tailNames (bitsAt s (l - 18) 1) l st) p n m
 
-pub held-start : Held (start .bins)
+pub right-start : Right (replicate 42 0) (start .bins)
 unfolding start
-held-start = record {
-  size = length-replicate {A = ℕ} 3584 0;
-  exps = λ k h. let z : getD {A = ℕ} (replicate 3584 0) k 0 ≡ 0 = getD-replicate {A = ℕ} 3584 k 0 0 (omega arith) in omega arith;
+right-start = record {
+  held = record {
+    size = length-replicate {A = ℕ} 1792 0;
+    low = λ k h. let z : getD {A = ℕ} (replicate 1792 0) k 0 ≡ 0 = getD-replicate {A = ℕ} 1792 k 0 0 (omega arith) in omega arith;
+  };
+  memo = memo-fresh (replicate 1792 0) (replicate 1792 0) (length-replicate {A = ℕ} 1792 0);
 }
 
 -- a call keeps the room
@@ -183,7 +191,67 @@ module _ (s : List ℕ) (m : Room) where
       let w : outcome c st mu ≡ answered s m = e ∙ ap (λ k. into 0 m (cut k (readOf s))) z ∙ rw (le-leb 6 (length s) h) refl in
       record { answer = ea ∙ answer-from c st mu ∙ ap answerOf w; left = ap (λ (o : Out State). o .left) w }
 
-  pub short-answer : (c : Cursor) (cells : List ℕ) (a : Answer) → length s < 6 → c ≡ haltedAt 0 0 1 → a ≡ answerFrom c cells → Called s m a m
+  pub short-answer : (c : Cursor) (a : Answer) → length s < 6 → c ≡ haltedAt 0 0 1 → a ≡ refusalFrom c → Called s m a m
   unfolding parse answerOf cut fill
-  short-answer c cells a h k e =
+  short-answer c a h k e =
       record { answer = rw (e, k, lt-leb 6 (length s) h) refl; left = rw (lt-leb 6 (length s) h) refl }
+
+-- a record at the count n, and then the refusal k at the place next
+abbrev refusedAfter : Field → ℕ → ℕ → ℕ → Room → Out State
+refusedAfter f k next n m = record-in f n m (λ i r. got (refused k) next i r)
+
+-- an element, and an item that refuses it
+element-refused : (s : List ℕ) (l name : ℕ) (i : Sum) (w : ℕ) (a : Addr) (c : Cond) (k : ℕ) (b : Block) (st : State) (p n : ℕ) (m : Room) → p + w ≤ l
+    → holdsOf c (putIn (st .cells) (placeOf a (st .cells)) (bitsAt s p w)) ≡ true
+    → exec s l (meaning (element name i w a ⨾ reject c k ⨾ b) st) p n m ≡ refusedAfter (fieldOf (partOf name i (st .cells)) p w (bitsAt s p w)) k (p + w) n m
+unfolding exec meaning item _>>=_
+element-refused s l name i w a c k b st p n m h e = rw (le-leb _ _ h, e) refl
+
+-- a cursor that is stopped after a record, unless there was no room
+stopped-is : (k : ℕ) (c : Cursor) → stoppedBy k c .stopped ≡ true
+stopped-is k c = go (c .stopped) refl
+  where
+    go : (b : Bool) → c .stopped ≡ b → cond b c (haltedAt (c .at .0) (c .count) k) .stopped ≡ true
+    go true e = e
+    go false e = refl
+
+stopped-after : (f : Field) (k next n : ℕ) (m : Room) (c : Cursor) (mu : Room) (st : State) → outcome c (f .value) mu ≡ keepOf f next n m
+    → outcome (stoppedBy k c) st mu ≡ refusedAfter f k next n m
+unfolding go-on
+stopped-after f k next n m c mu st e = stops (c .stopped) refl ∙ ap (λ (o : Out ℕ). o then refuses) e ∙ keeps (leb (size m) n)
+  where
+    refuses : ℕ → ℕ → ℕ → Room → Out State
+    refuses a p i r = got (refused k) p i r
+
+    stops : (b : Bool) → c .stopped ≡ b
+        → outcome (cond b c (haltedAt (c .at .0) (c .count) k)) st mu ≡ go-on (cond b (refused (c .number)) (accepted (f .value))) (c .at .0) (c .count) mu refuses
+    stops true x = rw x refl
+    stops false x = refl
+
+    keeps : (b : Bool) → _then_ {A = ℕ} {B = State} (cond b (got (refused 33) (f .first) n m) (got (accepted (f .value)) next (n + 1) (pushed m n f))) refuses
+        ≡ cond b (got (refused 33) (f .first) n m) (got (refused k) next (n + 1) (pushed m n f))
+    keeps true = refl
+    keeps false = refl
+
+-- a slice that begins with another word than the sync word: the header records it, and refuses it
+module _ (s : List ℕ) (m : Room) (v : ℕ) (ev : v ≡ bitsAt s 0 16) (other : ¬ (v ≡ 0x0B77)) where
+  abbrev word : ℕ → Field
+  word x = fieldOf (plain syncword) 0 16 x
+
+  differs : not (eqb (bitsAt s 0 16 % 65536) 0x0B77) ≡ true
+  differs =
+      let h : bitsAt s 0 16 < 65536 = bitsAt-lt s 0 16 in
+      let z : bitsAt s 0 16 % 65536 ≡ v = omega arith in
+      rw (z, ne-eqb v 0x0B77 other) refl
+
+  word-refused : exec s 48 (meaning header start) 0 0 m ≡ refusedAfter (word v) 2 16 0 m
+  unfolding header syncinfo start cellOf putIn
+  word-refused = element-refused s 48 _ _ _ _ _ _ _ start 0 0 m (omega arith) differs ∙ ap (λ x. refusedAfter (word x) 2 16 0 m) (sym ev)
+
+  pub unsynced-answer : (c r : Cursor) (mu : Room) (a : Answer) → 6 ≤ length s → outcome c v mu ≡ keepOf (word v) 16 0 m → r ≡ stoppedBy 2 c → a ≡ refusalFrom r → Called s m a mu
+  unsynced-answer c r mu a h e er ea =
+      let x : r .stopped ≡ true = ap (λ (y : Cursor). y .stopped) er ∙ stopped-is 2 c in
+      let w : outcome r start mu ≡ exec s 48 (meaning header start) 0 0 m
+      = ap (λ (y : Cursor). outcome y start mu) er ∙ stopped-after (word v) 2 16 0 m c mu start e ∙ sym word-refused in
+      let z : a ≡ answerFrom r (start .cells) = rw x ea in
+      whole-answer s m r start mu a h (stays r start mu (sized eac3 s) x ∙ begins s m r start mu w) z

@@ -78,9 +78,12 @@ pub record Called (s : List ℕ) (m : Room) (a : Answer) (m′ : Room) : Type 0 
   pub answer : a ≡ answerOf (answered s m)
   pub left : m′ ≡ answered s m .left
 
--- the same of a cursor
+-- the answer of a cursor that is stopped, which needs no cells; the answer of any
+abbrev pub refusalFrom : Cursor → Answer
+refusalFrom c = record { verdict = Refused (c .number) (c .at .0) (c .count); frame = nothing }
+
 abbrev pub answerFrom : Cursor → List ℕ → Answer
-answerFrom c m = cond (c .stopped) (record { verdict = Refused (c .number) (c .at .0) (c .count); frame = nothing }) (record { verdict = Accepted; frame = frameOf m (c .at .0) (c .count) })
+answerFrom c m = cond (c .stopped) (refusalFrom c) (record { verdict = Accepted; frame = frameOf m (c .at .0) (c .count) })
 
 -- document 01's number of an answer, 0 for an accepted frame; its place; and the records that were written
 abbrev pub numberBy : Verdict → ℕ

@@ -7,10 +7,11 @@ use lib.ListN.{length}
 use Rattle.reading.specs.Run.{refused, Outcome, after, run}
 use Rattle.reading.specs.Frame.{sized}
 use Rattle.reading.specs.Room.{Room, size, cut, Out, got, into}
-use Rattle.syntax.specs.Records.{outcome}
+use Rattle.syntax.specs.Records.{outcome, haltedAt}
 use Rattle.syntax.specs.Rooms.{Fills}
 use Rattle.syntax.specs.declared.Cursor.{Cursor}
-use Rattle.walk.specs.Stands.{Right}
+use Rattle.slots.specs.Held.{Bins}
+use Rattle.rows.specs.Reads.{Right}
 use Rattle.cells.specs.Cells.{State, state, cellOf}
 use Rattle.cells.specs.Names.{FRMSIZ}
 use Rattle.rows.specs.Syntax.{meaning}
@@ -26,16 +27,20 @@ placed n m o = into n m (cut (size m - n) o)
 unfoldable pub followed : Cursor → State → Room → (State → ℕ → Outcome State) → Out State
 followed c st m f = cond (c .stopped) (got (refused (c .number)) (c .at .0) (c .count) m) (placed (c .count) m (f st (c .at .0)))
 
+-- a cursor stopped by a refusal where it stands, unless it is stopped already
+abbrev pub stoppedBy : ℕ → Cursor → Cursor
+stoppedBy k c = cond (c .stopped) c (haltedAt (c .at .0) (c .count) k)
+
 -- what follows the header asks: the rows of Annex E, exponents and allocations that are right, the room, and a size that frmsiz can say
-pub record Headed (t cells bins mem : List ℕ) (most : ℕ) (m : Room) (c : Cursor) : Type 0 where
+pub record Headed (t cells : List ℕ) (b : Bins) (mem : List ℕ) (most : ℕ) (m : Room) (c : Cursor) : Type 0 where
   pub annexed : Annexed t
-  pub right : Right mem bins
+  pub right : Right mem b
   pub fills : Fills most m
   pub small : c .stopped ≡ false → cellOf cells FRMSIZ < 2048
 
 -- what it tells: the frame after its header, with the cells that the body left
 pub record Framed (s : List ℕ) (c : Cursor) (st : State) (m : Room) (r : Cursor) (cells : List ℕ) (m′ : Room) : Type 0 where
-  pub bins : List ℕ
+  pub bins : Bins
   pub is : outcome r (state cells bins) m′ ≡ followed c st m (sized eac3 s)
 
 -- a slice of 6 bytes or more

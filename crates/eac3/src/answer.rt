@@ -1,6 +1,6 @@
 // What the entry answers: an accepted frame, or one numbered refusal.
 ghost use mathlib.Core.Path.{_≡_};
-ghost use Rattle.eac3.specs.Answer.{nothing, frameOf, answerOf, answerFrom};
+ghost use Rattle.eac3.specs.Answer.{nothing, frameOf, answerOf, refusalFrom, answerFrom};
 use bits::BitPlace;
 use bits::ByteCount;
 use cells::cell_of;
@@ -104,15 +104,22 @@ fn frame_of(cells: &[u16; 1024], at: BitPlace, count: usize) -> Frame
     }
 }
 
+// The answer of a reading that was stopped.
+pub fn refusal(cur: Cursor) -> Answer
+    ensures { λ r. ⌜ r ≡ refusalFrom cur ⌝ }
+{
+    Answer {
+        verdict: Verdict::Refused(cur.number, cur.at.0, cur.count),
+        frame: none(),
+    }
+}
+
 // The answer of a reading that has come to its end, or was stopped.
 pub fn answer_of(cur: Cursor, cells: &[u16; 1024]) -> Answer
     ensures { λ r. ⌜ r ≡ answerFrom cur (now (cells .entry)) ⌝ }
 {
     if cur.stopped {
-        return Answer {
-            verdict: Verdict::Refused(cur.number, cur.at.0, cur.count),
-            frame: none(),
-        };
+        return refusal(cur);
     }
     Answer {
         verdict: Verdict::Accepted,

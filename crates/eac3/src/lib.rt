@@ -5,15 +5,17 @@ ghost use mathlib.Core.Path.{_≡_};
 ghost use Prim.Native.Nat.{_+_, _-_, _*_, _%_, _≤_, _<_};
 ghost use lib.ListN.{length};
 ghost use Rattle.reading.specs.Room.{room};
+ghost use Rattle.slots.specs.Held.{bins};
 ghost use Rattle.cells.specs.Cells.{state, cellOf, putIn};
 ghost use Rattle.cells.specs.Names.{FRMSIZ as frmsiz, FRAME-END, AUXDATAE as auxdatae};
 ghost use Rattle.annex.specs.Frame.{start};
 ghost use Rattle.bits.specs.Bits.{bitsAt};
 ghost use Rattle.eac3.specs.Answer.{Called};
-ghost use Rattle.eac3.specs.Parts.{Headed, Framed};
+ghost use Rattle.eac3.specs.Parts.{stoppedBy, Headed, Framed};
 use annex::annex;
 use answer::Answer;
 use answer::answer_of;
+use answer::refusal;
 use bits::BitPlace;
 use bits::ByteCount;
 use bits::bits_at;
@@ -22,8 +24,10 @@ use cells::numbers::AUXDATAE;
 use cells::numbers::FRAME_END;
 use cells::numbers::FRMSIZ;
 use cells::put;
+use names::numbers::SYNCWORD;
 use syntax::Cursor;
 use syntax::halted;
+use syntax::keep;
 use syntax::least;
 use walk::each;
 
@@ -35,6 +39,9 @@ const AFTER_BODY: usize = 496;
 const AFTER_TAIL: usize = 512;
 
 const ONCE: u32 = 1;
+
+// The word that a frame begins with.
+const SYNC: u32 = 0x0B77;
 
 // How many bytes a frame has, by its header.
 fn bytes_of(cells: &[u16; 1024]) -> ByteCount
@@ -54,6 +61,16 @@ fn less(a: u16, b: u16) -> u16
     ensures { λ r. ⌜ r ≡ a - b ⌝ }
 {
     if b < a { a - b } else { 0 }
+}
+
+// A refusal at the cursor, unless it is stopped already.
+fn stopped(cur: Cursor, number: u8) -> Cursor
+    ensures { λ r. ⌜ r ≡ stoppedBy number cur ⌝ }
+{
+    if cur.stopped {
+        return cur;
+    }
+    halted(cur.at, cur.count, number)
 }
 
 // The cells of the tail: where the frame ends, and auxdatae, which is looked at ahead.
@@ -78,13 +95,14 @@ fn framed(
     values: &mut [u32],
     table: &[u64; 512],
     cells: &mut [u16; 1024],
-    bins: &mut [u8; 3584],
-    memo: &mut [u8; 2128],
+    exps: &mut [u8; 1792],
+    baps: &mut [u8; 1792],
+    memo: &mut [u64; 42],
     most: usize,
     cur: Cursor,
 ) -> Cursor
-    requires { ⌜ Headed (now table) (now cells) (now bins) (now memo) most (room (now names) (now blocks) (now indexes) (now firsts) (now widths) (now values)) cur ⌝ }
-    ensures { λ r. ⌜ Framed (now (src .entry)) cur (state (now (cells .entry)) (now (bins .entry))) (room (now (names .entry)) (now (blocks .entry)) (now (indexes .entry)) (now (firsts .entry)) (now (widths .entry)) (now (values .entry)))
+    requires { ⌜ Headed (now table) (now cells) (bins (now exps) (now baps)) (now memo) most (room (now names) (now blocks) (now indexes) (now firsts) (now widths) (now values)) cur ⌝ }
+    ensures { λ r. ⌜ Framed (now (src .entry)) cur (state (now (cells .entry)) (bins (now (exps .entry)) (now (baps .entry)))) (room (now (names .entry)) (now (blocks .entry)) (now (indexes .entry)) (now (firsts .entry)) (now (widths .entry)) (now (values .entry)))
         r (now (cells .exit)) (room (now (names .exit)) (now (blocks .exit)) (now (indexes .exit)) (now (firsts .exit)) (now (widths .exit)) (now (values .exit))) ⌝ }
 {
     if cur.stopped {
@@ -106,7 +124,8 @@ fn framed(
         widths,
         values,
         cells,
-        bins,
+        exps,
+        baps,
         memo,
         cur.at.0,
         cur.count,
@@ -133,7 +152,8 @@ fn framed(
         widths,
         values,
         &mut ends,
-        bins,
+        exps,
+        baps,
         memo,
         at,
         c.count,
@@ -147,8 +167,8 @@ fn framed(
     )
 }
 
-// One frame, at the beginning of a slice: the frame, or one refusal, and its records in six lent slices, as many as the shortest of them has room for.
-pub fn parse(
+// A slice of 6 bytes or more: table, cells and bins are laid, and header, body and tail are run. The entry comes here only where it has seen the sync word.
+fn synced(
     src: &[u8],
     names: &mut [u8],
     blocks: &mut [i8],
@@ -157,15 +177,14 @@ pub fn parse(
     widths: &mut [u16],
     values: &mut [u32],
 ) -> Answer
+    requires { ⌜ 6 ≤ length (now src) ⌝ }
     ensures { λ r. ⌜ Called (now (src .entry)) (room (now (names .entry)) (now (blocks .entry)) (now (indexes .entry)) (now (firsts .entry)) (now (widths .entry)) (now (values .entry))) r (room (now (names .exit)) (now (blocks .exit)) (now (indexes .exit)) (now (firsts .exit)) (now (widths .exit)) (now (values .exit))) ⌝ }
 {
-    let mut cells: [u16; 1024] = [0; 1024];
-    if src.len() < 6 {
-        return answer_of(halted(BitPlace(0), 0, 1), &cells);
-    }
     let table = annex();
-    let mut bins: [u8; 3584] = [0; 3584];
-    let mut memo: [u8; 2128] = [0; 2128];
+    let mut cells: [u16; 1024] = [0; 1024];
+    let mut exps: [u8; 1792] = [0; 1792];
+    let mut baps: [u8; 1792] = [0; 1792];
+    let mut memo: [u64; 42] = [0; 42];
     let most = least(
         names.len(),
         blocks.len(),
@@ -184,7 +203,8 @@ pub fn parse(
         widths,
         values,
         &mut cells,
-        &mut bins,
+        &mut exps,
+        &mut baps,
         &mut memo,
         0,
         0,
@@ -206,10 +226,49 @@ pub fn parse(
         values,
         &table,
         &mut cells,
-        &mut bins,
+        &mut exps,
+        &mut baps,
         &mut memo,
         most,
         cur,
     );
     answer_of(c, &cells)
+}
+
+// One frame, at the beginning of a slice: the frame, or one refusal, and its records in six lent slices, as many as the shortest of them has room for.
+pub fn parse(
+    src: &[u8],
+    names: &mut [u8],
+    blocks: &mut [i8],
+    indexes: &mut [i16],
+    firsts: &mut [u16],
+    widths: &mut [u16],
+    values: &mut [u32],
+) -> Answer
+    ensures { λ r. ⌜ Called (now (src .entry)) (room (now (names .entry)) (now (blocks .entry)) (now (indexes .entry)) (now (firsts .entry)) (now (widths .entry)) (now (values .entry))) r (room (now (names .exit)) (now (blocks .exit)) (now (indexes .exit)) (now (firsts .exit)) (now (widths .exit)) (now (values .exit))) ⌝ }
+{
+    if src.len() < 6 {
+        return refusal(halted(BitPlace(0), 0, 1));
+    }
+    let word = bits_at(src, 0, 16);
+    if word == SYNC {
+        return synced(src, names, blocks, indexes, firsts, widths, values);
+    }
+    let cur = keep(
+        names,
+        blocks,
+        indexes,
+        firsts,
+        widths,
+        values,
+        0,
+        SYNCWORD,
+        -1,
+        -1,
+        BitPlace(0),
+        16,
+        word,
+        BitPlace(16),
+    );
+    refusal(stopped(cur, 2))
 }

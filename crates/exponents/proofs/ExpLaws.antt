@@ -42,48 +42,48 @@ length-cond : (t : Bool) (x y : List ℕ) (n : ℕ) → length x ≡ n → lengt
 length-cond true x y n a b = a
 length-cond false x y n a b = b
 
-pub put-length : (bins : List ℕ) (slot bin e : ℕ) → length (putOf bins slot bin e) ≡ length bins
+pub put-length : (exps : List ℕ) (slot bin e : ℕ) → length (putOf exps slot bin e) ≡ length exps
 unfolding putOf
-put-length bins slot bin e = length-cond (ltb slot 7 && ltb bin 256) (set bins (256 * slot + bin) e) bins (length bins) (length-set bins (256 * slot + bin) e) refl
+put-length exps slot bin e = length-cond (ltb slot 7 && ltb bin 256) (set exps (256 * slot + bin) e) exps (length exps) (length-set exps (256 * slot + bin) e) refl
 
-pub spread-length : (bins : List ℕ) (slot bin n e : ℕ) → length (spreadOf bins slot bin n e) ≡ length bins
+pub spread-length : (exps : List ℕ) (slot bin n e : ℕ) → length (spreadOf exps slot bin n e) ≡ length exps
 unfolding spreadOf
-spread-length bins slot bin zero e = refl
-spread-length bins slot bin (suc n) e = spread-length (putOf bins slot bin e) slot (suc bin) n e ∙ put-length bins slot bin e
+spread-length exps slot bin zero e = refl
+spread-length exps slot bin (suc n) e = spread-length (putOf exps slot bin e) slot (suc bin) n e ∙ put-length exps slot bin e
 
 -- one exponent for one, two and four bins
-pub put-one : (bins : List ℕ) (slot bin e : ℕ) {x : List ℕ} → x ≡ putOf bins slot bin e → x ≡ spreadOf bins slot bin 1 e
+pub put-one : (exps : List ℕ) (slot bin e : ℕ) {x : List ℕ} → x ≡ putOf exps slot bin e → x ≡ spreadOf exps slot bin 1 e
 unfolding spreadOf
-put-one bins slot bin e f = f
+put-one exps slot bin e f = f
 
-pub put-two : (bins : List ℕ) (slot bin e : ℕ) {x y : List ℕ} → x ≡ putOf bins slot bin e → y ≡ putOf x slot (bin + 1) e → y ≡ spreadOf bins slot bin 2 e
+pub put-two : (exps : List ℕ) (slot bin e : ℕ) {x y : List ℕ} → x ≡ putOf exps slot bin e → y ≡ putOf x slot (bin + 1) e → y ≡ spreadOf exps slot bin 2 e
 unfolding spreadOf
-put-two bins slot bin e f g = let z : bin + 1 ≡ suc bin = omega arith in g ∙ rw (f, z)
+put-two exps slot bin e f g = let z : bin + 1 ≡ suc bin = omega arith in g ∙ rw (f, z)
 
-pub put-four : (bins : List ℕ) (slot bin e : ℕ) {x y : List ℕ} → x ≡ spreadOf bins slot bin 2 e → y ≡ spreadOf x slot (bin + 2) 2 e → y ≡ spreadOf bins slot bin 4 e
+pub put-four : (exps : List ℕ) (slot bin e : ℕ) {x y : List ℕ} → x ≡ spreadOf exps slot bin 2 e → y ≡ spreadOf x slot (bin + 2) 2 e → y ≡ spreadOf exps slot bin 4 e
 unfolding spreadOf
-put-four bins slot bin e f g = let z : bin + 2 ≡ suc (suc bin) = omega arith in g ∙ rw (f, z)
+put-four exps slot bin e f g = let z : bin + 2 ≡ suc (suc bin) = omega arith in g ∙ rw (f, z)
 
 -- the same of bins that the slot has
-put-in : (bins : List ℕ) (slot bin e i : ℕ) → slot < 7 → bin < 256 → i ≡ 256 * slot + bin → set bins i e ≡ putOf bins slot bin e
+put-in : (exps : List ℕ) (slot bin e i : ℕ) → slot < 7 → bin < 256 → i ≡ 256 * slot + bin → set exps i e ≡ putOf exps slot bin e
 unfolding putOf
-put-in bins slot bin e i h k q = rw (q, lt-ltb slot 7 h, lt-ltb bin 256 k)
+put-in exps slot bin e i h k q = rw (q, lt-ltb slot 7 h, lt-ltb bin 256 k)
 
-module _ (bins : List ℕ) (slot bin e i : ℕ) (h : slot < 7) (q : i ≡ 256 * slot + bin) where
-  pub set-one : bin < 256 → set bins i e ≡ spreadOf bins slot bin 1 e
-  set-one k = put-one bins slot bin e (put-in bins slot bin e i h k q)
+module _ (exps : List ℕ) (slot bin e i : ℕ) (h : slot < 7) (q : i ≡ 256 * slot + bin) where
+  pub set-one : bin < 256 → set exps i e ≡ spreadOf exps slot bin 1 e
+  set-one k = put-one exps slot bin e (put-in exps slot bin e i h k q)
 
-  pub set-two : bin + 1 < 256 → set (set bins i e) (i + 1) e ≡ spreadOf bins slot bin 2 e
+  pub set-two : bin + 1 < 256 → set (set exps i e) (i + 1) e ≡ spreadOf exps slot bin 2 e
   set-two k =
-      put-two bins slot bin e (put-in bins slot bin e i h (omega arith) q)
-      (put-in (set bins i e) slot (bin + 1) e (i + 1) h (omega arith) (omega arith))
+      put-two exps slot bin e (put-in exps slot bin e i h (omega arith) q)
+      (put-in (set exps i e) slot (bin + 1) e (i + 1) h (omega arith) (omega arith))
 
-pub set-four : (bins : List ℕ) (slot bin e i : ℕ) → slot < 7 → i ≡ 256 * slot + bin → bin + 3 < 256
-    → set (set (set (set bins i e) (i + 1) e) (i + 2) e) (i + 3) e ≡ spreadOf bins slot bin 4 e
-set-four bins slot bin e i h q k =
+pub set-four : (exps : List ℕ) (slot bin e i : ℕ) → slot < 7 → i ≡ 256 * slot + bin → bin + 3 < 256
+    → set (set (set (set exps i e) (i + 1) e) (i + 2) e) (i + 3) e ≡ spreadOf exps slot bin 4 e
+set-four exps slot bin e i h q k =
     let f : i + 2 + 1 ≡ i + 3 = omega arith in
-    put-four bins slot bin e (set-two bins slot bin e i h q (omega arith))
-    (rw f at (set-two (set (set bins i e) (i + 1) e) slot (bin + 2) e (i + 2) h (omega arith) (omega arith)))
+    put-four exps slot bin e (set-two exps slot bin e i h q (omega arith))
+    (rw f at (set-two (set (set exps i e) (i + 1) e) slot (bin + 2) e (i + 2) h (omega arith) (omega arith)))
 
 -- grpsize by the strategy
 pub size-d45 : {strategy : ℕ} → strategy ≡ 3 → sizeOf strategy ≡ 4
@@ -99,13 +99,13 @@ unfolding sizeOf
 size-d15 n h = rw (ne-eqb _ 3 n, ne-eqb _ 2 h)
 
 -- three spreads are a group
-pub laid-by : (bins x y z : List ℕ) (slot bin size strategy a b c : ℕ) → size ≡ sizeOf strategy
-    → x ≡ spreadOf bins slot bin (sizeOf strategy) a → y ≡ spreadOf x slot (bin + size) (sizeOf strategy) b → z ≡ spreadOf y slot (bin + 2 * size) (sizeOf strategy) c
-    → z ≡ laidOf bins slot (sizeOf strategy) bin a b c
+pub laid-by : (exps x y z : List ℕ) (slot bin size strategy a b c : ℕ) → size ≡ sizeOf strategy
+    → x ≡ spreadOf exps slot bin (sizeOf strategy) a → y ≡ spreadOf x slot (bin + size) (sizeOf strategy) b → z ≡ spreadOf y slot (bin + 2 * size) (sizeOf strategy) c
+    → z ≡ laidOf exps slot (sizeOf strategy) bin a b c
 unfolding laidOf
-laid-by bins x y z slot bin size strategy a b c e f g h = h ∙ rw (g, f, e)
+laid-by exps x y z slot bin size strategy a b c e f g h = h ∙ rw (g, f, e)
 
--- exponents that come out of a group lie from 0 to 24, and putting such exponents keeps the bins held
+-- exponents that come out of a group lie from 0 to 24, and putting them keeps the exponents held
 next-to : (t : Bool) (x e : ℕ) → cond t (To x) Outside ≡ To e → (t ≡ true) × (x ≡ e)
 next-to true x e q = (refl, cc)
 next-to false x e q = let z : _≡_ {A = ℕ} 0 1 = cc in absurd (let w : ⊥ = omega arith in w)
@@ -148,20 +148,20 @@ module _ (a b c : ℕ) where
       (λ z ez. ends x y z (next-low prev (grp / 25) x ex) (next-low x (grp % 25 / 5) y ey) (next-low y (grp % 5) z ez))))
       (past-high (ltb 124 grp) (onTo (nextOf prev (grp / 25)) (λ x. onTo (nextOf x (grp % 25 / 5)) (λ y. onTo (nextOf y (grp % 5)) (λ z. Moved x y z)))) q)
 
-module _ (bins : List ℕ) (held : Held bins) where
-  at-put : (slot bin e : ℕ) → e ≤ 24 → slot < 7 → bin < 256 → (k : ℕ) → k < 1792 → Dec (k ≡ 256 * slot + bin) → getD (set bins (256 * slot + bin) e) k 0 ≤ 24
-  at-put slot bin e h s b k l (yes q) = rw (q, getD-set-same bins (256 * slot + bin) e 0 (let z : 256 * slot + bin < length bins = omega (arith, held .size) in z)) h
-  at-put slot bin e h s b k l (no q) = rw (getD-set-other bins (256 * slot + bin) k e 0 q) (held .exps k l)
+module _ (exps : List ℕ) (held : Held exps) where
+  at-put : (slot bin e : ℕ) → e ≤ 24 → slot < 7 → bin < 256 → (k : ℕ) → k < 1792 → Dec (k ≡ 256 * slot + bin) → getD (set exps (256 * slot + bin) e) k 0 ≤ 24
+  at-put slot bin e h s b k l (yes q) = rw (q, getD-set-same exps (256 * slot + bin) e 0 (let z : 256 * slot + bin < length exps = omega (arith, held .size) in z)) h
+  at-put slot bin e h s b k l (no q) = rw (getD-set-other exps (256 * slot + bin) k e 0 q) (held .low k l)
 
-  pub put-held : (slot bin e : ℕ) → e ≤ 24 → Held (putOf bins slot bin e)
+  pub put-held : (slot bin e : ℕ) → e ≤ 24 → Held (putOf exps slot bin e)
   unfolding putOf
   put-held slot bin e h = go (ltb slot 7 && ltb bin 256) refl
     where
-      go : (t : Bool) → ltb slot 7 && ltb bin 256 ≡ t → Held (cond t (set bins (256 * slot + bin) e) bins)
+      go : (t : Bool) → ltb slot 7 && ltb bin 256 ≡ t → Held (cond t (set exps (256 * slot + bin) e) exps)
       go true q =
           let p = both (ltb slot 7) (ltb bin 256) q in
           record {
-            size = length-set bins (256 * slot + bin) e ∙ held .size;
-            exps = λ k l. at-put slot bin e h (ltb-true slot 7 (p .0)) (ltb-true bin 256 (p .1)) k l (ℕ-discrete k (256 * slot + bin));
+            size = length-set exps (256 * slot + bin) e ∙ held .size;
+            low = λ k l. at-put slot bin e h (ltb-true slot 7 (p .0)) (ltb-true bin 256 (p .1)) k l (ℕ-discrete k (256 * slot + bin));
           }
       go false q = held

@@ -28,57 +28,55 @@ use Rattle.exponents.specs.declared.Group.the-variants.{Refused, Moved}
 use Rattle.exponents.proofs.ExpLaws.{Low, decode-low, put-held}
 
 -- exponents of one slot, laid one after another
-pub laid-none : (slot : ℕ) (bins : List ℕ) → Laid slot bins bins
-laid-none slot bins = record { held = λ h. h; before = λ k h. refl; after = λ k h. refl; pointers = λ k h. refl }
+pub laid-none : (slot : ℕ) (exps : List ℕ) → Laid slot exps exps
+laid-none slot exps = record { held = λ h. h; before = λ k h. refl; after = λ k h. refl }
 
 pub laid-then : {slot : ℕ} {x y z : List ℕ} → Laid slot x y → Laid slot y z → Laid slot x z
 laid-then p q = record {
   held = λ h. q .held (p .held h);
   before = λ k h. q .before k h ∙ p .before k h;
   after = λ k h. q .after k h ∙ p .after k h;
-  pointers = λ k h. q .pointers k h ∙ p .pointers k h;
 }
 
 -- a bin that is not the one that is put
-put-other : (bins : List ℕ) (slot bin e k : ℕ) → (slot < 7 → bin < 256 → k ≡ 256 * slot + bin → ⊥) → getD (putOf bins slot bin e) k 0 ≡ getD bins k 0
+put-other : (exps : List ℕ) (slot bin e k : ℕ) → (slot < 7 → bin < 256 → k ≡ 256 * slot + bin → ⊥) → getD (putOf exps slot bin e) k 0 ≡ getD exps k 0
 unfolding putOf
-put-other bins slot bin e k f = go (ltb slot 7 && ltb bin 256) refl
+put-other exps slot bin e k f = go (ltb slot 7 && ltb bin 256) refl
   where
-    go : (t : Bool) → ltb slot 7 && ltb bin 256 ≡ t → getD (cond t (set bins (256 * slot + bin) e) bins) k 0 ≡ getD bins k 0
+    go : (t : Bool) → ltb slot 7 && ltb bin 256 ≡ t → getD (cond t (set exps (256 * slot + bin) e) exps) k 0 ≡ getD exps k 0
     go true q =
         let b = both (ltb slot 7) (ltb bin 256) q in
-        getD-set-other bins (256 * slot + bin) k e 0 (f (ltb-true slot 7 (b .0)) (ltb-true bin 256 (b .1)))
+        getD-set-other exps (256 * slot + bin) k e 0 (f (ltb-true slot 7 (b .0)) (ltb-true bin 256 (b .1)))
     go false q = refl
 
-pub laid-put : (bins : List ℕ) (slot bin e : ℕ) → e ≤ 24 → Laid slot bins (putOf bins slot bin e)
-laid-put bins slot bin e low = record {
-  held = λ h. put-held bins h slot bin e low;
-  before = λ k h. put-other bins slot bin e k (λ s b q. omega arith);
-  after = λ k h. put-other bins slot bin e k (λ s b q. omega arith);
-  pointers = λ k h. put-other bins slot bin e k (λ s b q. omega arith);
+pub laid-put : (exps : List ℕ) (slot bin e : ℕ) → e ≤ 24 → Laid slot exps (putOf exps slot bin e)
+laid-put exps slot bin e low = record {
+  held = λ h. put-held exps h slot bin e low;
+  before = λ k h. put-other exps slot bin e k (λ s b q. omega arith);
+  after = λ k h. put-other exps slot bin e k (λ s b q. omega arith);
 }
 
-laid-spread : (bins : List ℕ) (slot bin n e : ℕ) → e ≤ 24 → Laid slot bins (spreadOf bins slot bin n e)
+laid-spread : (exps : List ℕ) (slot bin n e : ℕ) → e ≤ 24 → Laid slot exps (spreadOf exps slot bin n e)
 unfolding spreadOf
-laid-spread bins slot bin zero e low = laid-none slot bins
-laid-spread bins slot bin (suc n) e low = laid-then (laid-put bins slot bin e low) (laid-spread (putOf bins slot bin e) slot (suc bin) n e low)
+laid-spread exps slot bin zero e low = laid-none slot exps
+laid-spread exps slot bin (suc n) e low = laid-then (laid-put exps slot bin e low) (laid-spread (putOf exps slot bin e) slot (suc bin) n e low)
 
-pub laid-group : (bins : List ℕ) (slot size bin a b c : ℕ) → Low a b c → Laid slot bins (laidOf bins slot size bin a b c)
+pub laid-group : (exps : List ℕ) (slot size bin a b c : ℕ) → Low a b c → Laid slot exps (laidOf exps slot size bin a b c)
 unfolding laidOf
-laid-group bins slot size bin a b c low =
-    laid-then (laid-spread bins slot bin size a (low .first))
-    (laid-then (laid-spread (spreadOf bins slot bin size a) slot (bin + size) size b (low .second))
-    (laid-spread (spreadOf (spreadOf bins slot bin size a) slot (bin + size) size b) slot (bin + 2 * size) size c (low .third)))
+laid-group exps slot size bin a b c low =
+    laid-then (laid-spread exps slot bin size a (low .first))
+    (laid-then (laid-spread (spreadOf exps slot bin size a) slot (bin + size) size b (low .second))
+    (laid-spread (spreadOf (spreadOf exps slot bin size a) slot (bin + size) size b) slot (bin + 2 * size) size c (low .third)))
 
-pub laid-begun : (bins : List ℕ) (slot absexp : ℕ) → absexp ≤ 24 → Laid slot bins (begunOf slot absexp bins)
+pub laid-begun : (exps : List ℕ) (slot absexp : ℕ) → absexp ≤ 24 → Laid slot exps (begunOf slot absexp exps)
 unfolding begunOf
-laid-begun bins slot absexp low = go (eqb slot CPL)
+laid-begun exps slot absexp low = go (eqb slot CPL)
   where
-    go : (t : Bool) → Laid slot bins (cond t bins (putOf bins slot 0 absexp))
-    go true = laid-none slot bins
-    go false = laid-put bins slot 0 absexp low
+    go : (t : Bool) → Laid slot exps (cond t exps (putOf exps slot 0 absexp))
+    go true = laid-none slot exps
+    go false = laid-put exps slot 0 absexp low
 
--- a set that is accepted leaves other slots and the pointers as they were, and no exponent of it is above 24
+-- a set that is accepted leaves other slots as they were, and no exponent of it is above 24
 never : {A : Type 0} (a : A) (n : ℕ) → refused n ≡ accepted a → ⊥
 never a n q = let z : _≡_ {A = ℕ} 0 1 = cc in omega arith
 
@@ -87,35 +85,35 @@ inner true o u n a f e = e
 inner false o u n a f e = absurd (never a n (sym f ∙ e))
 
 module _ (s : List ℕ) (l : ℕ) (q : Part) (slot size : ℕ) where
-  groups-laid : (n bin prev : ℕ) (bins : List ℕ) (p : ℕ) (b : List ℕ) → run (groupsFrom q slot size n bin prev bins) s p l .result ≡ accepted b → Laid slot bins b
+  groups-laid : (n bin prev : ℕ) (exps : List ℕ) (p : ℕ) (b : List ℕ) → run (groupsFrom q slot size n bin prev exps) s p l .result ≡ accepted b → Laid slot exps b
   unfolding run groupsFrom
-  groups-laid zero bin prev bins p b e = let z : bins ≡ b = cc in subst (Laid slot bins) z (laid-none slot bins)
-  groups-laid (suc n) bin prev bins p b e =
-      go (λ x y z. groups-laid n (bin + 3 * size) z (laidOf bins slot size bin x y z) (p + 7) b) (decodeOf prev (bitsAt s p 7)) refl
+  groups-laid zero bin prev exps p b e = let z : exps ≡ b = cc in subst (Laid slot exps) z (laid-none slot exps)
+  groups-laid (suc n) bin prev exps p b e =
+      go (λ x y z. groups-laid n (bin + 3 * size) z (laidOf exps slot size bin x y z) (p + 7) b) (decodeOf prev (bitsAt s p 7)) refl
       (inner (leb (p + 7) l) (cons (element q p 7 (bitsAt s p 7)) (run (rest (decodeOf prev (bitsAt s p 7))) s (p + 7) l)) (out (refused 8) p []) 8 b refl e)
     where
       rest : Group → Tree (List ℕ)
-      rest g = onGroup g (λ x y z. groupsFrom q slot size n (bin + 3 * size) z (laidOf bins slot size bin x y z))
+      rest g = onGroup g (λ x y z. groupsFrom q slot size n (bin + 3 * size) z (laidOf exps slot size bin x y z))
 
-      go : ((x y z : ℕ) → run (groupsFrom q slot size n (bin + 3 * size) z (laidOf bins slot size bin x y z)) s (p + 7) l .result ≡ accepted b → Laid slot (laidOf bins slot size bin x y z) b)
-          → (g : Group) → decodeOf prev (bitsAt s p 7) ≡ g → run (rest g) s (p + 7) l .result ≡ accepted b → Laid slot bins b
+      go : ((x y z : ℕ) → run (groupsFrom q slot size n (bin + 3 * size) z (laidOf exps slot size bin x y z)) s (p + 7) l .result ≡ accepted b → Laid slot (laidOf exps slot size bin x y z) b)
+          → (g : Group) → decodeOf prev (bitsAt s p 7) ≡ g → run (rest g) s (p + 7) l .result ≡ accepted b → Laid slot exps b
       go f (Refused k) h r = absurd (never b k r)
-      go f (Moved x y z) h r = laid-then (laid-group bins slot size bin x y z (decode-low x y z prev (bitsAt s p 7) h)) (f x y z r)
+      go f (Moved x y z) h r = laid-then (laid-group exps slot size bin x y z (decode-low x y z prev (bitsAt s p 7) h)) (f x y z r)
 
-pub set-laid : (s : List ℕ) (l : ℕ) (q : Part) (slot strategy start end absexp : ℕ) (bins : List ℕ) (p : ℕ) (b : List ℕ) → absexp ≤ 15
-    → run (setOf q slot strategy start end absexp bins) s p l .result ≡ accepted b → Laid slot bins b
+pub set-laid : (s : List ℕ) (l : ℕ) (q : Part) (slot strategy start end absexp : ℕ) (exps : List ℕ) (p : ℕ) (b : List ℕ) → absexp ≤ 15
+    → run (setOf q slot strategy start end absexp exps) s p l .result ≡ accepted b → Laid slot exps b
 unfolding setOf
-set-laid s l q slot strategy start end absexp bins p b h e =
-    laid-then (laid-begun bins slot absexp (omega arith))
-    (groups-laid s l q slot (sizeOf strategy) (groupsOf slot strategy start end) (firstOf slot start) (startOf slot absexp) (begunOf slot absexp bins) p b e)
+set-laid s l q slot strategy start end absexp exps p b h e =
+    laid-then (laid-begun exps slot absexp (omega arith))
+    (groups-laid s l q slot (sizeOf strategy) (groupsOf slot strategy start end) (firstOf slot start) (startOf slot absexp) (begunOf slot absexp exps) p b e)
 
 -- the groups one by one: what is left of a set at the place p, with n records in the room m
 module _ (s : List ℕ) (l : ℕ) (q : Part) (slot size : ℕ) where
   abbrev pub rest : ℕ → ℕ → ℕ → List ℕ → ℕ → ℕ → Room → Out (List ℕ)
-  rest left bin prev bins p n m = exec s l (groupsFrom q slot size left bin prev bins) p n m
+  rest left bin prev exps p n m = exec s l (groupsFrom q slot size left bin prev exps) p n m
 
-  module _ (left bin prev : ℕ) (bins : List ℕ) (p n : ℕ) (m : Room) (c : Cursor) where
-    pub group-none : left ≤ 0 → c ≡ goingAt p n → outcome c bins m ≡ rest left bin prev bins p n m
+  module _ (left bin prev : ℕ) (exps : List ℕ) (p n : ℕ) (m : Room) (c : Cursor) where
+    pub group-none : left ≤ 0 → c ≡ goingAt p n → outcome c exps m ≡ rest left bin prev exps p n m
     unfolding exec groupsFrom
     group-none h e = let z : left ≡ 0 = omega arith in rw (z, e)
 
@@ -123,33 +121,33 @@ module _ (s : List ℕ) (l : ℕ) (q : Part) (slot size : ℕ) where
       one-more : left ≡ suc (left - 1)
       one-more = omega arith
 
-      pub group-past : l < p + 7 → c ≡ haltedAt p n 8 → (x : List ℕ) → outcome c x m ≡ rest left bin prev bins p n m
+      pub group-past : l < p + 7 → c ≡ haltedAt p n 8 → (x : List ℕ) → outcome c x m ≡ rest left bin prev exps p n m
       unfolding exec groupsFrom
       group-past h e x = rw (one-more, e, lt-leb (p + 7) l h)
 
       module _ (within : p + 7 ≤ l) (most : ℕ) (fills : Fills most m) where
-        pub group-full : most ≤ n → c ≡ haltedAt p n 33 → (x : List ℕ) → outcome c x m ≡ rest left bin prev bins p n m
+        pub group-full : most ≤ n → c ≡ haltedAt p n 33 → (x : List ℕ) → outcome c x m ≡ rest left bin prev exps p n m
         unfolding exec groupsFrom
         group-full h e x = rw (one-more, e, le-leb (p + 7) l within, fills .is, le-leb most n h)
 
         module _ (free : n < most) (v : ℕ) (ev : v ≡ bitsAt s p 7) (g : Group) (eg : g ≡ decodeOf prev v) (m′ : Room) (em : m′ ≡ pushed m n (fieldOf q p 7 v)) where
-          pub group-refused : (k : ℕ) → g ≡ Refused k → c ≡ haltedAt (p + 7) (n + 1) k → (x : List ℕ) → outcome c x m′ ≡ rest left bin prev bins p n m
+          pub group-refused : (k : ℕ) → g ≡ Refused k → c ≡ haltedAt (p + 7) (n + 1) k → (x : List ℕ) → outcome c x m′ ≡ rest left bin prev exps p n m
           unfolding exec groupsFrom
           group-refused k h e x = rw (one-more, e, em, le-leb (p + 7) l within, fills .is, lt-leb most n free, ← ev, ← eg, h)
 
-          pub group-moved : (x y z : ℕ) → g ≡ Moved x y z → (bins′ : List ℕ) → bins′ ≡ laidOf bins slot size bin x y z
-              → rest left bin prev bins p n m ≡ rest (left - 1) (bin + 3 * size) z bins′ (p + 7) (n + 1) m′
+          pub group-moved : (x y z : ℕ) → g ≡ Moved x y z → (exps′ : List ℕ) → exps′ ≡ laidOf exps slot size bin x y z
+              → rest left bin prev exps p n m ≡ rest (left - 1) (bin + 3 * size) z exps′ (p + 7) (n + 1) m′
           unfolding exec groupsFrom
-          group-moved x y z h bins′ eb =
-              let f : rest (suc (left - 1)) bin prev bins p n m ≡ rest (left - 1) (bin + 3 * size) z bins′ (p + 7) (n + 1) m′ =
+          group-moved x y z h exps′ eb =
+              let f : rest (suc (left - 1)) bin prev exps p n m ≡ rest (left - 1) (bin + 3 * size) z exps′ (p + 7) (n + 1) m′ =
               rw (em, eb, le-leb (p + 7) l within, fills .is, lt-leb most n free, ← ev, ← eg, h) refl in
-              ap (λ k. rest k bin prev bins p n m) one-more ∙ f
+              ap (λ k. rest k bin prev exps p n m) one-more ∙ f
 
 -- how the loop stands: what is left is the whole, and only the slot's exponents were laid
-pub record Standing (s : List ℕ) (l : ℕ) (q : Part) (slot size : ℕ) (o : Out (List ℕ)) (most : ℕ) (old : List ℕ) (first : Room) (left bin prev : ℕ) (bins : List ℕ) (p n : ℕ) (m : Room) : Type 0 where
-  pub whole : o ≡ rest s l q slot size left bin prev bins p n m
-  pub laid : Laid slot old bins
-  pub held : Held bins
+pub record Standing (s : List ℕ) (l : ℕ) (q : Part) (slot size : ℕ) (o : Out (List ℕ)) (most : ℕ) (old : List ℕ) (first : Room) (left bin prev : ℕ) (exps : List ℕ) (p n : ℕ) (m : Room) : Type 0 where
+  pub whole : o ≡ rest s l q slot size left bin prev exps p n m
+  pub laid : Laid slot old exps
+  pub held : Held exps
   pub same : Same first m
   pub fills : Fills most m
   pub low : bin + 12 * left ≤ 851955
@@ -173,11 +171,11 @@ kept-same m n name p v b i = record {
   values = length-set (m .values) n v;
 }
 
-pub standing-first : (s : List ℕ) (l : ℕ) (q : Part) (slot strategy absexp most : ℕ) (old bins : List ℕ) (left bin prev p n : ℕ) (m : Room) → Fills most m → Held old → absexp ≤ 15 → bins ≡ begunOf slot absexp old → left < 65536 → bin < 65536 → p < 65536
-    → Standing s l q slot (sizeOf strategy) (rest s l q slot (sizeOf strategy) left bin prev bins p n m) most bins m left bin prev bins p n m
-standing-first s l q slot strategy absexp most old bins left bin prev p n m fills held small e h k place = record {
+pub standing-first : (s : List ℕ) (l : ℕ) (q : Part) (slot strategy absexp most : ℕ) (old exps : List ℕ) (left bin prev p n : ℕ) (m : Room) → Fills most m → Held old → absexp ≤ 15 → exps ≡ begunOf slot absexp old → left < 65536 → bin < 65536 → p < 65536
+    → Standing s l q slot (sizeOf strategy) (rest s l q slot (sizeOf strategy) left bin prev exps p n m) most exps m left bin prev exps p n m
+standing-first s l q slot strategy absexp most old exps left bin prev p n m fills held small e h k place = record {
   whole = refl;
-  laid = laid-none slot bins;
+  laid = laid-none slot exps;
   held = rw e (laid-begun old slot absexp (omega arith) .held held);
   same = same-refl m;
   fills = fills;
@@ -189,27 +187,27 @@ standing-first s l q slot strategy absexp most old bins left bin prev p n m fill
 pub seven : (s : List ℕ) (p : ℕ) {v : ℕ} → v ≡ bitsAt s p 7 → v < 128
 seven s p e = rw e (bitsAt-lt s p 7)
 
-module _ {s : List ℕ} {l name : ℕ} {b i : ℤ} {slot size : ℕ} {o : Out (List ℕ)} {most : ℕ} {old : List ℕ} {first : Room} {left bin prev : ℕ} {bins : List ℕ} {p n : ℕ} {m : Room}
-    (at : Standing s l (part name b i) slot size o most old first left bin prev bins p n m) where
-  pub standing-end : left ≤ 0 → (c : Cursor) → c ≡ goingAt p n → outcome c bins m ≡ o
-  standing-end h c e = group-none s l (part name b i) slot size left bin prev bins p n m c h e ∙ sym (at .whole)
+module _ {s : List ℕ} {l name : ℕ} {b i : ℤ} {slot size : ℕ} {o : Out (List ℕ)} {most : ℕ} {old : List ℕ} {first : Room} {left bin prev : ℕ} {exps : List ℕ} {p n : ℕ} {m : Room}
+    (at : Standing s l (part name b i) slot size o most old first left bin prev exps p n m) where
+  pub standing-end : left ≤ 0 → (c : Cursor) → c ≡ goingAt p n → outcome c exps m ≡ o
+  standing-end h c e = group-none s l (part name b i) slot size left bin prev exps p n m c h e ∙ sym (at .whole)
 
   module _ (some : 0 < left) where
-    pub standing-past : l < p + 7 → (c : Cursor) → c ≡ haltedAt p n 8 → outcome c bins m ≡ o
-    standing-past h c e = group-past s l (part name b i) slot size left bin prev bins p n m c some h e bins ∙ sym (at .whole)
+    pub standing-past : l < p + 7 → (c : Cursor) → c ≡ haltedAt p n 8 → outcome c exps m ≡ o
+    standing-past h c e = group-past s l (part name b i) slot size left bin prev exps p n m c some h e exps ∙ sym (at .whole)
 
     module _ (within : p + 7 ≤ l) where
-      pub standing-full : most ≤ n → (c : Cursor) → c ≡ haltedAt p n 33 → outcome c bins m ≡ o
-      standing-full h c e = group-full s l (part name b i) slot size left bin prev bins p n m c some within most (at .fills) h e bins ∙ sym (at .whole)
+      pub standing-full : most ≤ n → (c : Cursor) → c ≡ haltedAt p n 33 → outcome c exps m ≡ o
+      standing-full h c e = group-full s l (part name b i) slot size left bin prev exps p n m c some within most (at .fills) h e exps ∙ sym (at .whole)
 
       module _ (free : n < most) (v : ℕ) (ev : v ≡ bitsAt s p 7) (g : Group) (eg : g ≡ decodeOf prev v) where
-        pub standing-refused : (k : ℕ) → g ≡ Refused k → (c : Cursor) → c ≡ haltedAt (p + 7) (n + 1) k → outcome c bins (kept m n name b i p v) ≡ o
+        pub standing-refused : (k : ℕ) → g ≡ Refused k → (c : Cursor) → c ≡ haltedAt (p + 7) (n + 1) k → outcome c exps (kept m n name b i p v) ≡ o
         standing-refused k h c e =
-            group-refused s l (part name b i) slot size left bin prev bins p n m c some within most (at .fills) free v ev g eg (kept m n name b i p v) (kept-is m n name p v b i) k h e bins ∙ sym (at .whole)
+            group-refused s l (part name b i) slot size left bin prev exps p n m c some within most (at .fills) free v ev g eg (kept m n name b i p v) (kept-is m n name p v b i) k h e exps ∙ sym (at .whole)
 
-        pub standing-moved : (x y z : ℕ) → g ≡ Moved x y z → (bins′ : List ℕ) → bins′ ≡ laidOf bins slot size bin x y z → size ≤ 4 → (step : ℕ) → step ≡ 3 * size → l < 65536
-            → Standing s l (part name b i) slot size o most old first (left - 1) (bin + step) z bins′ (p + 7) (n + 1) (kept m n name b i p v)
-        standing-moved x y z h bins′ eb small step es ends =
+        pub standing-moved : (x y z : ℕ) → g ≡ Moved x y z → (exps′ : List ℕ) → exps′ ≡ laidOf exps slot size bin x y z → size ≤ 4 → (step : ℕ) → step ≡ 3 * size → l < 65536
+            → Standing s l (part name b i) slot size o most old first (left - 1) (bin + step) z exps′ (p + 7) (n + 1) (kept m n name b i p v)
+        standing-moved x y z h exps′ eb small step es ends =
             record {
               whole = at .whole ∙ moved;
               laid = laid-then (at .laid) group;
@@ -220,20 +218,20 @@ module _ {s : List ℕ} {l name : ℕ} {b i : ℤ} {slot size : ℕ} {o : Out (L
               place = omega arith;
             }
           where
-            group : Laid slot bins bins′
-            group = rw eb (laid-group bins slot size bin x y z (decode-low x y z prev v (sym eg ∙ h)))
+            group : Laid slot exps exps′
+            group = rw eb (laid-group exps slot size bin x y z (decode-low x y z prev v (sym eg ∙ h)))
 
-            moved : rest s l (part name b i) slot size left bin prev bins p n m ≡ rest s l (part name b i) slot size (left - 1) (bin + step) z bins′ (p + 7) (n + 1) (kept m n name b i p v)
+            moved : rest s l (part name b i) slot size left bin prev exps p n m ≡ rest s l (part name b i) slot size (left - 1) (bin + step) z exps′ (p + 7) (n + 1) (kept m n name b i p v)
             moved =
-                group-moved s l (part name b i) slot size left bin prev bins p n m (goingAt p n) some within most (at .fills) free v ev g eg (kept m n name b i p v) (kept-is m n name p v b i) x y z h bins′ eb
-                ∙ ap (λ k. rest s l (part name b i) slot size (left - 1) (bin + k) z bins′ (p + 7) (n + 1) (kept m n name b i p v)) (sym es)
+                group-moved s l (part name b i) slot size left bin prev exps p n m (goingAt p n) some within most (at .fills) free v ev g eg (kept m n name b i p v) (kept-is m n name p v b i) x y z h exps′ eb
+                ∙ ap (λ k. rest s l (part name b i) slot size (left - 1) (bin + k) z exps′ (p + 7) (n + 1) (kept m n name b i p v)) (sym es)
 
 -- the answer, where the whole set is what stood at the loop's start
 module _ (s : List ℕ) (l name : ℕ) (b b′ i i′ : ℤ) (eb : b′ ≡ b) (ei : i′ ≡ i) (slot strategy start end absexp : ℕ) (old : List ℕ) (p n : ℕ) (m : Room) where
   pub set-read : {left bin prev : ℕ} {begun : List ℕ} → Held old → absexp ≤ 15
       → left ≡ groupsOf slot strategy start end → bin ≡ firstOf slot start → prev ≡ startOf slot absexp → begun ≡ begunOf slot absexp old
-      → {c : Cursor} {bins : List ℕ} {m′ : Room} → Laid slot begun bins → outcome c bins m′ ≡ rest s l (part name b′ i′) slot (sizeOf strategy) left bin prev begun p n m
-      → SetRead s l (part name b i) slot strategy start end absexp old p n m c bins m′
+      → {c : Cursor} {exps : List ℕ} {m′ : Room} → Laid slot begun exps → outcome c exps m′ ≡ rest s l (part name b′ i′) slot (sizeOf strategy) left bin prev begun p n m
+      → SetRead s l (part name b i) slot strategy start end absexp old p n m c exps m′
   unfolding setOf
   set-read {left} {bin} {prev} {begun} h k el ef ep eg laid e =
       let first : Laid slot old begun = rw eg (laid-begun old slot absexp (omega arith)) in

@@ -46,14 +46,14 @@ firstOf slot start = cond (eqb slot CPL) start 1
 
 -- the exponent of a bin: seven slots have 256 bins each
 unfoldable pub putOf : List ℕ → ℕ → ℕ → ℕ → List ℕ
-putOf bins slot bin e = cond (ltb slot 7 && ltb bin 256) (set bins (256 * slot + bin) e) bins
+putOf exps slot bin e = cond (ltb slot 7 && ltb bin 256) (set exps (256 * slot + bin) e) exps
 
 -- one exponent for n bins
 unfoldable pub spreadOf : List ℕ → ℕ → ℕ → ℕ → ℕ → List ℕ
-spreadOf bins slot bin zero e = bins
-spreadOf bins slot bin (suc n) e = spreadOf (putOf bins slot bin e) slot (suc bin) n e
+spreadOf exps slot bin zero e = exps
+spreadOf exps slot bin (suc n) e = spreadOf (putOf exps slot bin e) slot (suc bin) n e
 
 -- the three exponents of a group, each for grpsize bins
 unfoldable pub laidOf : List ℕ → ℕ → ℕ → ℕ → ℕ → ℕ → ℕ → List ℕ
-laidOf bins slot size bin a b c =
-    spreadOf (spreadOf (spreadOf bins slot bin size a) slot (bin + size) size b) slot (bin + 2 * size) size c
+laidOf exps slot size bin a b c =
+    spreadOf (spreadOf (spreadOf exps slot bin size a) slot (bin + size) size b) slot (bin + 2 * size) size c

@@ -23,36 +23,35 @@ onGroup (Moved a b c) f = f a b c
 
 -- n groups of 7 bits; each moves from the exponent before it
 unfoldable pub groupsFrom : Part → ℕ → ℕ → ℕ → ℕ → ℕ → List ℕ → Tree (List ℕ)
-groupsFrom q slot size zero bin prev bins = done bins
-groupsFrom q slot size (suc n) bin prev bins =
+groupsFrom q slot size zero bin prev exps = done exps
+groupsFrom q slot size (suc n) bin prev exps =
     read q 7
-    (λ grp. onGroup (decodeOf prev grp) (λ a b c. groupsFrom q slot size n (bin + 3 * size) c (laidOf bins slot size bin a b c)))
+    (λ grp. onGroup (decodeOf prev grp) (λ a b c. groupsFrom q slot size n (bin + 3 * size) c (laidOf exps slot size bin a b c)))
 
 -- bin 0 of a channel or of LFE has the absolute exponent itself
 unfoldable pub begunOf : ℕ → ℕ → List ℕ → List ℕ
-begunOf slot absexp bins = cond (eqb slot CPL) bins (putOf bins slot 0 absexp)
+begunOf slot absexp exps = cond (eqb slot CPL) exps (putOf exps slot 0 absexp)
 
 -- a set: the exponents of a slot that ends before the bin `end`, of the coupling channel from the bin `start` on
 unfoldable pub setOf : Part → ℕ → ℕ → ℕ → ℕ → ℕ → List ℕ → Tree (List ℕ)
-setOf q slot strategy start end absexp bins =
-    groupsFrom q slot (sizeOf strategy) (groupsOf slot strategy start end) (firstOf slot start) (startOf slot absexp) (begunOf slot absexp bins)
+setOf q slot strategy start end absexp exps =
+    groupsFrom q slot (sizeOf strategy) (groupsOf slot strategy start end) (firstOf slot start) (startOf slot absexp) (begunOf slot absexp exps)
 
 -- only exponents of one slot differ, and none is above 24
 pub record Laid (slot : ℕ) (old new : List ℕ) : Type 0 where
   pub held : Held old → Held new
   pub before : (k : ℕ) → k < 256 * slot → getD new k 0 ≡ getD old k 0
   pub after : (k : ℕ) → 256 * slot + 256 ≤ k → getD new k 0 ≡ getD old k 0
-  pub pointers : (k : ℕ) → 1792 ≤ k → getD new k 0 ≡ getD old k 0
 
--- what `read_exponents` asks: the frame ends within the data, so many records fit into the room, the bins are held
-pub record Ready (s : List ℕ) (l most : ℕ) (m : Room) (bins : List ℕ) (absexp : ℕ) : Type 0 where
+-- what `read_exponents` asks: the frame ends within the data, so many records fit into the room, the exponents are held
+pub record Ready (s : List ℕ) (l most : ℕ) (m : Room) (exps : List ℕ) (absexp : ℕ) : Type 0 where
   pub within : l ≤ 8 * length s
   pub fills : Fills most m
-  pub held : Held bins
+  pub held : Held exps
   pub small : absexp ≤ 15
 
 -- and what it tells: a set was read at the place p, with n records in the room
-pub record SetRead (s : List ℕ) (l : ℕ) (q : Part) (slot strategy start end absexp : ℕ) (bins : List ℕ) (p n : ℕ) (m : Room) (c : Cursor) (bins′ : List ℕ) (m′ : Room) : Type 0 where
-  pub is : outcome c bins′ m′ ≡ exec s l (setOf q slot strategy start end absexp bins) p n m
-  pub held : Held bins′
-  pub laid : Laid slot bins bins′
+pub record SetRead (s : List ℕ) (l : ℕ) (q : Part) (slot strategy start end absexp : ℕ) (exps : List ℕ) (p n : ℕ) (m : Room) (c : Cursor) (exps′ : List ℕ) (m′ : Room) : Type 0 where
+  pub is : outcome c exps′ m′ ≡ exec s l (setOf q slot strategy start end absexp exps) p n m
+  pub held : Held exps′
+  pub laid : Laid slot exps exps′

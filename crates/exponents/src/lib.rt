@@ -1,7 +1,7 @@
 // Exponents out of their groups (A/52 clause 7.1.3, TS 102 366 clause 6.1.3).
 //
-// `bins` holds seven slots of 256 exponents, then seven slots of 256 pointers. The slots are the five
-// full bandwidth channels, the coupling channel (5) and the LFE channel (6).
+// `exps` holds seven slots of 256 exponents: of the five full bandwidth channels, the coupling channel (5)
+// and the LFE channel (6).
 use slots::CPL;
 use slots::LFE;
 ghost use mathlib.Core.Path.{_≡_};
@@ -106,115 +106,115 @@ pub fn first_of(slot: u8, start: u16) -> u16
 }
 
 // The exponent of a bin; nothing where there is no such slot or bin.
-pub fn put(bins: &mut [u8; 3584], slot: u8, bin: u32, e: u8)
-    requires { ⌜ length (now bins) ≡ 3584 ⌝ }
-    ensures { λ r. ⌜ now (bins .exit) ≡ putOf (now (bins .entry)) slot bin e ⌝ }
+pub fn put(exps: &mut [u8; 1792], slot: u8, bin: u32, e: u8)
+    requires { ⌜ length (now exps) ≡ 1792 ⌝ }
+    ensures { λ r. ⌜ now (exps .exit) ≡ putOf (now (exps .entry)) slot bin e ⌝ }
 {
     if 7 <= slot {
         return;
     }
     if bin < 256 {
         let i = 256 * (slot as usize) + bin as usize;
-        bins[i] = e;
+        exps[i] = e;
     }
 }
 
 // One exponent for two bins, for four, and for as many as the strategy has it.
-fn put_two(bins: &mut [u8; 3584], slot: u8, bin: u32, e: u8)
-    requires { ⌜ (length (now bins) ≡ 3584) × (bin + 2 < 4294967296) ⌝ }
-    ensures { λ r. ⌜ now (bins .exit) ≡ spreadOf (now (bins .entry)) slot bin 2 e ⌝ }
+fn put_two(exps: &mut [u8; 1792], slot: u8, bin: u32, e: u8)
+    requires { ⌜ (length (now exps) ≡ 1792) × (bin + 2 < 4294967296) ⌝ }
+    ensures { λ r. ⌜ now (exps .exit) ≡ spreadOf (now (exps .entry)) slot bin 2 e ⌝ }
 {
-    put(bins, slot, bin, e);
-    put(bins, slot, bin + 1, e);
+    put(exps, slot, bin, e);
+    put(exps, slot, bin + 1, e);
 }
 
-fn put_four(bins: &mut [u8; 3584], slot: u8, bin: u32, e: u8)
-    requires { ⌜ (length (now bins) ≡ 3584) × (bin + 4 < 4294967296) ⌝ }
-    ensures { λ r. ⌜ now (bins .exit) ≡ spreadOf (now (bins .entry)) slot bin 4 e ⌝ }
+fn put_four(exps: &mut [u8; 1792], slot: u8, bin: u32, e: u8)
+    requires { ⌜ (length (now exps) ≡ 1792) × (bin + 4 < 4294967296) ⌝ }
+    ensures { λ r. ⌜ now (exps .exit) ≡ spreadOf (now (exps .entry)) slot bin 4 e ⌝ }
 {
-    put_two(bins, slot, bin, e);
-    put_two(bins, slot, bin + 2, e);
+    put_two(exps, slot, bin, e);
+    put_two(exps, slot, bin + 2, e);
 }
 
-fn spread(bins: &mut [u8; 3584], slot: u8, strategy: u8, bin: u32, e: u8)
-    requires { ⌜ (length (now bins) ≡ 3584) × (bin + 4 < 4294967296) ⌝ }
-    ensures { λ r. ⌜ now (bins .exit) ≡ spreadOf (now (bins .entry)) slot bin (sizeOf strategy) e ⌝ }
+fn spread(exps: &mut [u8; 1792], slot: u8, strategy: u8, bin: u32, e: u8)
+    requires { ⌜ (length (now exps) ≡ 1792) × (bin + 4 < 4294967296) ⌝ }
+    ensures { λ r. ⌜ now (exps .exit) ≡ spreadOf (now (exps .entry)) slot bin (sizeOf strategy) e ⌝ }
 {
     if strategy == 3 {
-        put_four(bins, slot, bin, e);
+        put_four(exps, slot, bin, e);
         return;
     }
     if strategy == 2 {
-        put_two(bins, slot, bin, e);
+        put_two(exps, slot, bin, e);
         return;
     }
-    put(bins, slot, bin, e);
+    put(exps, slot, bin, e);
 }
 
 // The same of one, two and four bins that the slot has.
-fn one(bins: &mut [u8; 3584], slot: u8, bin: u32, e: u8)
-    requires { ⌜ (length (now bins) ≡ 3584) × (slot < 7) × (bin < 256) ⌝ }
-    ensures { λ r. ⌜ now (bins .exit) ≡ spreadOf (now (bins .entry)) slot bin 1 e ⌝ }
+fn one(exps: &mut [u8; 1792], slot: u8, bin: u32, e: u8)
+    requires { ⌜ (length (now exps) ≡ 1792) × (slot < 7) × (bin < 256) ⌝ }
+    ensures { λ r. ⌜ now (exps .exit) ≡ spreadOf (now (exps .entry)) slot bin 1 e ⌝ }
 {
     let i = 256 * (slot as usize) + bin as usize;
-    bins[i] = e;
+    exps[i] = e;
 }
 
-fn two(bins: &mut [u8; 3584], slot: u8, bin: u32, e: u8)
-    requires { ⌜ (length (now bins) ≡ 3584) × (slot < 7) × (bin + 1 < 256) ⌝ }
-    ensures { λ r. ⌜ now (bins .exit) ≡ spreadOf (now (bins .entry)) slot bin 2 e ⌝ }
+fn two(exps: &mut [u8; 1792], slot: u8, bin: u32, e: u8)
+    requires { ⌜ (length (now exps) ≡ 1792) × (slot < 7) × (bin + 1 < 256) ⌝ }
+    ensures { λ r. ⌜ now (exps .exit) ≡ spreadOf (now (exps .entry)) slot bin 2 e ⌝ }
 {
     let i = 256 * (slot as usize) + bin as usize;
-    bins[i] = e;
-    bins[i + 1] = e;
+    exps[i] = e;
+    exps[i + 1] = e;
 }
 
-fn four(bins: &mut [u8; 3584], slot: u8, bin: u32, e: u8)
-    requires { ⌜ (length (now bins) ≡ 3584) × (slot < 7) × (bin + 3 < 256) ⌝ }
-    ensures { λ r. ⌜ now (bins .exit) ≡ spreadOf (now (bins .entry)) slot bin 4 e ⌝ }
+fn four(exps: &mut [u8; 1792], slot: u8, bin: u32, e: u8)
+    requires { ⌜ (length (now exps) ≡ 1792) × (slot < 7) × (bin + 3 < 256) ⌝ }
+    ensures { λ r. ⌜ now (exps .exit) ≡ spreadOf (now (exps .entry)) slot bin 4 e ⌝ }
 {
     let i = 256 * (slot as usize) + bin as usize;
-    bins[i] = e;
-    bins[i + 1] = e;
-    bins[i + 2] = e;
-    bins[i + 3] = e;
+    exps[i] = e;
+    exps[i + 1] = e;
+    exps[i + 2] = e;
+    exps[i + 3] = e;
 }
 
-fn spread_in(bins: &mut [u8; 3584], slot: u8, strategy: u8, bin: u32, e: u8)
-    requires { ⌜ (length (now bins) ≡ 3584) × (slot < 7) × (bin + 4 ≤ 256) ⌝ }
-    ensures { λ r. ⌜ now (bins .exit) ≡ spreadOf (now (bins .entry)) slot bin (sizeOf strategy) e ⌝ }
+fn spread_in(exps: &mut [u8; 1792], slot: u8, strategy: u8, bin: u32, e: u8)
+    requires { ⌜ (length (now exps) ≡ 1792) × (slot < 7) × (bin + 4 ≤ 256) ⌝ }
+    ensures { λ r. ⌜ now (exps .exit) ≡ spreadOf (now (exps .entry)) slot bin (sizeOf strategy) e ⌝ }
 {
     if strategy == 3 {
-        four(bins, slot, bin, e);
+        four(exps, slot, bin, e);
         return;
     }
     if strategy == 2 {
-        two(bins, slot, bin, e);
+        two(exps, slot, bin, e);
         return;
     }
-    one(bins, slot, bin, e);
+    one(exps, slot, bin, e);
 }
 
 // A group whose bins the slot has.
-fn lay_in(bins: &mut [u8; 3584], slot: u8, strategy: u8, bin: u32, a: u8, b: u8, c: u8)
-    requires { ⌜ (length (now bins) ≡ 3584) × (slot < 7) × (bin + 12 ≤ 256) ⌝ }
-    ensures { λ r. ⌜ now (bins .exit) ≡ laidOf (now (bins .entry)) slot (sizeOf strategy) bin a b c ⌝ }
+fn lay_in(exps: &mut [u8; 1792], slot: u8, strategy: u8, bin: u32, a: u8, b: u8, c: u8)
+    requires { ⌜ (length (now exps) ≡ 1792) × (slot < 7) × (bin + 12 ≤ 256) ⌝ }
+    ensures { λ r. ⌜ now (exps .exit) ≡ laidOf (now (exps .entry)) slot (sizeOf strategy) bin a b c ⌝ }
 {
     let size = group_size(strategy);
-    spread_in(bins, slot, strategy, bin, a);
-    spread_in(bins, slot, strategy, bin + size, b);
-    spread_in(bins, slot, strategy, bin + 2 * size, c);
+    spread_in(exps, slot, strategy, bin, a);
+    spread_in(exps, slot, strategy, bin + size, b);
+    spread_in(exps, slot, strategy, bin + 2 * size, c);
 }
 
 // A group some of whose bins the slot may not have.
-fn lay_some(bins: &mut [u8; 3584], slot: u8, strategy: u8, bin: u32, a: u8, b: u8, c: u8)
-    requires { ⌜ (length (now bins) ≡ 3584) × (bin + 12 < 4294967296) ⌝ }
-    ensures { λ r. ⌜ now (bins .exit) ≡ laidOf (now (bins .entry)) slot (sizeOf strategy) bin a b c ⌝ }
+fn lay_some(exps: &mut [u8; 1792], slot: u8, strategy: u8, bin: u32, a: u8, b: u8, c: u8)
+    requires { ⌜ (length (now exps) ≡ 1792) × (bin + 12 < 4294967296) ⌝ }
+    ensures { λ r. ⌜ now (exps .exit) ≡ laidOf (now (exps .entry)) slot (sizeOf strategy) bin a b c ⌝ }
 {
     let size = group_size(strategy);
-    spread(bins, slot, strategy, bin, a);
-    spread(bins, slot, strategy, bin + size, b);
-    spread(bins, slot, strategy, bin + 2 * size, c);
+    spread(exps, slot, strategy, bin, a);
+    spread(exps, slot, strategy, bin + size, b);
+    spread(exps, slot, strategy, bin + 2 * size, c);
 }
 
 // Whether a slot has the bins of every group from the bin `bin` on.
@@ -225,13 +225,13 @@ fn inside(slot: u8, bin: u32) -> bool
 }
 
 // The three exponents of a group, each for as many bins as the strategy has it, from the bin `bin` on.
-pub fn lay(bins: &mut [u8; 3584], slot: u8, strategy: u8, bin: u32, a: u8, b: u8, c: u8)
-    requires { ⌜ (length (now bins) ≡ 3584) × (bin + 12 < 4294967296) ⌝ }
-    ensures { λ r. ⌜ now (bins .exit) ≡ laidOf (now (bins .entry)) slot (sizeOf strategy) bin a b c ⌝ }
+pub fn lay(exps: &mut [u8; 1792], slot: u8, strategy: u8, bin: u32, a: u8, b: u8, c: u8)
+    requires { ⌜ (length (now exps) ≡ 1792) × (bin + 12 < 4294967296) ⌝ }
+    ensures { λ r. ⌜ now (exps .exit) ≡ laidOf (now (exps .entry)) slot (sizeOf strategy) bin a b c ⌝ }
 {
     if inside(slot, bin) {
-        lay_in(bins, slot, strategy, bin, a, b, c);
+        lay_in(exps, slot, strategy, bin, a, b, c);
         return;
     }
-    lay_some(bins, slot, strategy, bin, a, b, c);
+    lay_some(exps, slot, strategy, bin, a, b, c);
 }

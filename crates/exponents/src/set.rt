@@ -21,14 +21,14 @@ ghost use Rattle.syntax.specs.Records.{part};
 ghost use Rattle.exponents.specs.Set.{begunOf, Ready, SetRead};
 
 // Bin 0 of a channel or of LFE has the absolute exponent itself.
-fn begin(bins: &mut [u8; 3584], slot: u8, absexp: u8)
-    requires { ⌜ length (now bins) ≡ 3584 ⌝ }
-    ensures { λ r. ⌜ now (bins .exit) ≡ begunOf slot absexp (now (bins .entry)) ⌝ }
+fn begin(exps: &mut [u8; 1792], slot: u8, absexp: u8)
+    requires { ⌜ length (now exps) ≡ 1792 ⌝ }
+    ensures { λ r. ⌜ now (exps .exit) ≡ begunOf slot absexp (now (exps .entry)) ⌝ }
 {
     if slot == CPL {
         return;
     }
-    put(bins, slot, 0, absexp);
+    put(exps, slot, 0, absexp);
 }
 
 // The groups of a set: each is read, recorded, decoded and laid. 8 where a group passes the limit, 33 where
@@ -41,7 +41,7 @@ pub fn read_exponents(
     firsts: &mut [u16],
     widths: &mut [u16],
     values: &mut [u32],
-    bins: &mut [u8; 3584],
+    exps: &mut [u8; 1792],
     at: u16,
     count: usize,
     limit: u16,
@@ -55,9 +55,9 @@ pub fn read_exponents(
     end: u16,
     absexp: u8,
 ) -> Cursor
-    requires { ⌜ Ready (now src) limit most (room (now names) (now blocks) (now indexes) (now firsts) (now widths) (now values)) (now bins) absexp ⌝ }
-    ensures { λ r. ⌜ SetRead (now (src .entry)) limit (part name block index) slot strategy start end absexp (now (bins .entry)) at count (room (now (names .entry)) (now (blocks .entry)) (now (indexes .entry)) (now (firsts .entry)) (now (widths .entry)) (now (values .entry)))
-        r (now (bins .exit)) (room (now (names .exit)) (now (blocks .exit)) (now (indexes .exit)) (now (firsts .exit)) (now (widths .exit)) (now (values .exit))) ⌝ }
+    requires { ⌜ Ready (now src) limit most (room (now names) (now blocks) (now indexes) (now firsts) (now widths) (now values)) (now exps) absexp ⌝ }
+    ensures { λ r. ⌜ SetRead (now (src .entry)) limit (part name block index) slot strategy start end absexp (now (exps .entry)) at count (room (now (names .entry)) (now (blocks .entry)) (now (indexes .entry)) (now (firsts .entry)) (now (widths .entry)) (now (values .entry)))
+        r (now (exps .exit)) (room (now (names .exit)) (now (blocks .exit)) (now (indexes .exit)) (now (firsts .exit)) (now (widths .exit)) (now (values .exit))) ⌝ }
 {
     let step = 3 * group_size(strategy);
     let mut left = groups(slot, strategy, start, end);
@@ -65,7 +65,7 @@ pub fn read_exponents(
     let mut prev = start_of(slot, absexp);
     let mut p = at;
     let mut n = count;
-    begin(bins, slot, absexp);
+    begin(exps, slot, absexp);
     while 0 < left {
         if (limit as u32) < p as u32 + 7 {
             return halted(BitPlace(p), n, 8);
@@ -88,7 +88,7 @@ pub fn read_exponents(
                 return halted(BitPlace(p), n, number);
             }
             Group::Moved(a, b, c) => {
-                lay(bins, slot, strategy, bin, a, b, c);
+                lay(exps, slot, strategy, bin, a, b, c);
                 prev = c;
             }
         }

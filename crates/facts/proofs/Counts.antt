@@ -13,6 +13,7 @@ use Rattle.reading.specs.Tree.{Part, Skim, stop, fail, at, take, Tree, done, re
 use Rattle.reading.specs.Run.{Entry, region, Result, accepted, refused, Outcome, out, cons, andThen, after, skim, run}
 use Rattle.reading.proofs.Laws.{test, choice, skimmed}
 use Rattle.reading.proofs.Runs.{run-bind}
+use Rattle.slots.specs.Held.{bins}
 use Rattle.exponents.specs.Exponents.{decodeOf}
 use Rattle.exponents.specs.Set.{onGroup, groupsFrom, setOf}
 use Rattle.exponents.specs.declared.Group.{Group}
@@ -147,10 +148,10 @@ module _ (b : List ℕ) (l : ℕ) where
   few-one name i w a st p = few-more (1 - w) (omega arith) (few-read _ w _ p 0 (λ v. few-done _ (p + w) 0))
 
   -- the groups of a set of exponents have 7 bits each
-  few-groups : (q : Part) (slot size n bin prev : ℕ) (bins : List ℕ) (p : ℕ) → Few l p 0 (run (groupsFrom q slot size n bin prev bins) b p l)
+  few-groups : (q : Part) (slot size n bin prev : ℕ) (exps : List ℕ) (p : ℕ) → Few l p 0 (run (groupsFrom q slot size n bin prev exps) b p l)
   unfolding groupsFrom
-  few-groups q slot size zero bin prev bins p = few-done bins p 0
-  few-groups q slot size (suc n) bin prev bins p =
+  few-groups q slot size zero bin prev exps p = few-done exps p 0
+  few-groups q slot size (suc n) bin prev exps p =
       few-read q 7 _ p 0 (λ grp. go (decodeOf prev grp) _ (λ x y c. few-groups q slot size n _ c _ (p + 7)))
     where
       go : (g : Group) (f : ℕ → ℕ → ℕ → Tree (List ℕ)) → ((x y c : ℕ) → Few l (p + 7) 0 (run (f x y c) b (p + 7) l)) → Few l (p + 7) 0 (run (onGroup g f) b (p + 7) l)
@@ -159,7 +160,7 @@ module _ (b : List ℕ) (l : ℕ) where
 
   few-exponents : (q : Part) (slot : ℕ) (st : State) (p : ℕ) → Few l p 0 (run (exponentsOf q slot st) b p l)
   unfolding exponentsOf setOf
-  few-exponents q slot st p = few-bind {y = 0} (groupsFrom _ _ _ _ _ _ _) _ (few-groups _ _ _ _ _ _ _ p) (λ x _. few-done (state (st .cells) x) _ 0)
+  few-exponents q slot st p = few-bind {y = 0} (groupsFrom _ _ _ _ _ _ _) _ (few-groups _ _ _ _ _ _ _ p) (λ x _. few-done (state (st .cells) (bins x (st .bins .baps))) _ 0)
 
   -- a tree so many times
   few-turns : (A : State → ℕ → List Entry → Type 0) (f : State → Tree State) (z : ℕ) → ((st : State) (p : ℕ) (es : List Entry) → A st p es → Few l p z (run (f st) b p l))

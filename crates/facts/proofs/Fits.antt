@@ -8,6 +8,7 @@ use native.Mathlib.Omega.{arith}
 use lib.Dec.{eqb, ltb}
 use borrow.Author.Tests.{eqb-true, eqb-false, ltb-true, not-true}
 use Rattle.reading.specs.Run.{Entry}
+use Rattle.slots.specs.Held.{Bins}
 use Rattle.cells.specs.Cells.{State, state, Addr, cellOf, putIn, stored, placeOf, heldOf}
 use Rattle.rows.specs.Syntax.{Count, Fixed, Held, Value, Here, Let, Less, Plus, Minus, Item, Block, element, elements, span, mantissas, exponents, when, each, reject, reject-at, put, fill, derive, end, _⨾_, countOf, amountOf, filled}
 use Rattle.facts.specs.Bounds.{Within}
@@ -215,7 +216,7 @@ module _ (byBounds : Item → Bool) where
       knows : Knows ks (a .cells)
 
     -- an item that puts nothing; one that puts a value
-    next-same : (permits : Test) (ks : Known) (st : State) (b : List ℕ) (es fs : List Entry) (q : ℕ) → Within (st .cells) → Knows ks (st .cells) → Grows es fs → Next permits ks st es (state (st .cells) b) q fs
+    next-same : (permits : Test) (ks : Known) (st : State) (b : Bins) (es fs : List Entry) (q : ℕ) → Within (st .cells) → Knows ks (st .cells) → Grows es fs → Next permits ks st es (state (st .cells) b) q fs
     next-same permits ks st b es fs q w f g = record { reached = record { changed = changed-none permits (st .cells) w; grows = g }; knows = f }
 
     next-put : (permits : Test) (a : Addr) (v y z : ℕ) (ks : Known) (st : State) (es fs : List Entry) (q : ℕ) → Within (st .cells) → Knows ks (st .cells)

@@ -95,10 +95,10 @@ refuses-if true t u h k = h
 refuses-if false t u h k = k
 
 -- the mantissas of a block
-fails-conventional : (bins : List ℕ) (slot bin n : ℕ) (g : Groups) → Fails (conventionalOf bins slot bin n g)
+fails-conventional : (baps : List ℕ) (slot bin n : ℕ) (g : Groups) → Fails (conventionalOf baps slot bin n g)
 unfolding conventionalOf
-fails-conventional bins slot bin zero g = tt
-fails-conventional bins slot bin (suc n) g = λ v. fails-conventional bins slot (suc bin) n _
+fails-conventional baps slot bin zero g = tt
+fails-conventional baps slot bin (suc n) g = λ v. fails-conventional baps slot (suc bin) n _
 
 fails-singles : (large n : ℕ) (gains : List ℕ) → Fails (singlesOf large n gains)
 unfolding singlesOf
@@ -132,39 +132,39 @@ fails-bin : (hebap gain : ℕ) → Fails (binOf hebap gain)
 unfolding binOf
 fails-bin hebap gain = fails-if (ltb hebap 8) _ _ (λ _. tt) (fails-premantissas (getD gaqBits (hebap - 8) 0) gain 6 0)
 
-fails-bins : (mode : ℕ) (gains bins : List ℕ) (slot bin n k tags : ℕ) → Fails (binsOf mode gains bins slot bin n k tags)
+fails-bins : (mode : ℕ) (gains baps : List ℕ) (slot bin n k tags : ℕ) → Fails (binsOf mode gains baps slot bin n k tags)
 unfolding binsOf
-fails-bins mode gains bins slot bin zero k tags = tt
-fails-bins mode gains bins slot bin (suc n) k tags = fails-bind (binOf _ _) _ (fails-bin _ _) (λ t. fails-bins mode gains bins slot (suc bin) n _ (tags + t))
+fails-bins mode gains baps slot bin zero k tags = tt
+fails-bins mode gains baps slot bin (suc n) k tags = fails-bind (binOf _ _) _ (fails-bin _ _) (λ t. fails-bins mode gains baps slot (suc bin) n _ (tags + t))
 
-fails-aht : (bins : List ℕ) (slot bin n : ℕ) → Fails (ahtOf bins slot bin n)
+fails-aht : (baps : List ℕ) (slot bin n : ℕ) → Fails (ahtOf baps slot bin n)
 unfolding ahtOf
-fails-aht bins slot bin n =
-    λ mode. fails-bind (gainsOf mode (activeIn mode bins slot bin n)) _ (fails-gains mode (activeIn mode bins slot bin n)) (λ gains. fails-bins mode gains bins slot bin n 0 0)
+fails-aht baps slot bin n =
+    λ mode. fails-bind (gainsOf mode (activeIn mode baps slot bin n)) _ (fails-gains mode (activeIn mode baps slot bin n)) (λ gains. fails-bins mode gains baps slot bin n 0 0)
 
-module _ (bins : List ℕ) (shape : Shape) where
-  fails-visit : (slot : ℕ) (a : Along) → Fails (visitOf bins shape slot a)
+module _ (baps : List ℕ) (shape : Shape) where
+  fails-visit : (slot : ℕ) (a : Along) → Fails (visitOf baps shape slot a)
   unfolding visitOf
   fails-visit slot a =
       fails-if (readOf shape slot) _ _ tt
       (fails-if (getD (shape .ahtinu) slot false) _ _
-      (fails-bind (ahtOf bins slot _ _) _ (fails-aht bins slot _ _) (λ t. tt))
-      (fails-bind (conventionalOf bins slot _ _ (a .groups)) _ (fails-conventional bins slot _ _ (a .groups)) (λ g. tt)))
+      (fails-bind (ahtOf baps slot _ _) _ (fails-aht baps slot _ _) (λ t. tt))
+      (fails-bind (conventionalOf baps slot _ _ (a .groups)) _ (fails-conventional baps slot _ _ (a .groups)) (λ g. tt)))
 
-  fails-visit-if : (c : Bool) (slot : ℕ) (a : Along) → Fails (visitIf bins shape c slot a)
+  fails-visit-if : (c : Bool) (slot : ℕ) (a : Along) → Fails (visitIf baps shape c slot a)
   unfolding visitIf
   fails-visit-if c slot a = fails-if c _ _ (fails-visit slot a) tt
 
-  fails-slots : (ch n : ℕ) (got : Bool) (a : Along) → Fails (slotsOf bins shape ch n got a)
+  fails-slots : (ch n : ℕ) (got : Bool) (a : Along) → Fails (slotsOf baps shape ch n got a)
   unfolding slotsOf
-  fails-slots ch zero got a = fails-bind (visitIf bins shape (shape .lfeon) 6 a) _ (fails-visit-if (shape .lfeon) 6 a) (λ a. tt)
+  fails-slots ch zero got a = fails-bind (visitIf baps shape (shape .lfeon) 6 a) _ (fails-visit-if (shape .lfeon) 6 a) (λ a. tt)
   fails-slots ch (suc n) got a =
-      fails-bind (visitIf bins shape true ch a) _ (fails-visit-if true ch a)
-      (λ a. fails-bind (visitIf bins shape _ 5 a) _ (fails-visit-if _ 5 a) (λ a. fails-slots (suc ch) n _ a))
+      fails-bind (visitIf baps shape true ch a) _ (fails-visit-if true ch a)
+      (λ a. fails-bind (visitIf baps shape _ 5 a) _ (fails-visit-if _ 5 a) (λ a. fails-slots (suc ch) n _ a))
 
 fails-mantissas : (st : State) → Fails (mantissasIn st)
 unfolding mantissasIn mantissasOf
-fails-mantissas st = fails-slots (st .bins) _ 0 _ false _
+fails-mantissas st = fails-slots (st .bins .baps) _ 0 _ false _
 
 -- a set of exponents
 abbrev Group-numbered : Group → Type 0
@@ -189,10 +189,10 @@ refuses-group : {A : Type 0} (g : Group) (f : ℕ → ℕ → ℕ → Tree A) �
 refuses-group (Refused n) f h k = h
 refuses-group (Moved a b c) f h k = k a b c
 
-refuses-groups : (q : Part) (slot size n bin prev : ℕ) (bins : List ℕ) → Refuses (groupsFrom q slot size n bin prev bins)
+refuses-groups : (q : Part) (slot size n bin prev : ℕ) (exps : List ℕ) → Refuses (groupsFrom q slot size n bin prev exps)
 unfolding groupsFrom
-refuses-groups q slot size zero bin prev bins = tt
-refuses-groups q slot size (suc n) bin prev bins = λ grp. refuses-group (decodeOf prev grp) _ (numbered-decode prev grp) (λ a b c. refuses-groups q slot size n _ c _)
+refuses-groups q slot size zero bin prev exps = tt
+refuses-groups q slot size (suc n) bin prev exps = λ grp. refuses-group (decodeOf prev grp) _ (numbered-decode prev grp) (λ a b c. refuses-groups q slot size n _ c _)
 
 refuses-exponents : (q : Part) (slot : ℕ) (st : State) → Refuses (exponentsOf q slot st)
 unfolding exponentsOf setOf
@@ -203,7 +203,7 @@ numbered-allocate : (st : State) → allocateIn st .number ≤ 32
 unfolding allocateIn allocatedOf
 numbered-allocate st = go (allocStateOf (st .cells) .parameters) _ (λ c. let z : 0 ≤ 32 = omega arith in z)
   where
-    go : (q : Parameters) (k : Codes → Allocated) → ((c : Codes) → k c .number ≤ 32) → bySent q (allocated 29 (st .bins)) k .number ≤ 32
+    go : (q : Parameters) (k : Codes → Allocated) → ((c : Codes) → k c .number ≤ 32) → bySent q (allocated 29 (st .bins .baps)) k .number ≤ 32
     go NeverSent k h = omega arith
     go (Sent c) k h = h c
 

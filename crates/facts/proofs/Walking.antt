@@ -12,6 +12,7 @@ use Rattle.bits.proofs.BitLaws.{bitsAt-lt}
 use Rattle.reading.specs.Tree.{Part, Tree, done, refuse, ahead, _>>=_}
 use Rattle.reading.specs.Run.{Entry, region, Result, accepted, refused, Outcome, out, cons, andThen, after, skim, run}
 use Rattle.reading.proofs.Runs.{run-bind}
+use Rattle.slots.specs.Held.{Bins, bins}
 use Rattle.exponents.specs.Set.{setOf}
 use Rattle.cells.specs.Cells.{State, state, Addr, Sum, cellOf, stored, placeOf, heldOf, sumOf, partOf}
 use Rattle.derivations.specs.Derivations.{derived}
@@ -81,21 +82,21 @@ module _ (s : List ℕ) (l : ℕ) where
   then-if true t u p es R h k = h refl
   then-if false t u p es R h k = k refl
 
-  -- a tree that gives bins, which go into the state
-  then-bins : (t : Tree (List ℕ)) (m : List ℕ) (p : ℕ) (es : List Entry) (R : Point)
-      → ((b : List ℕ) (q : ℕ) (fs : List Entry) → Grows es fs → R (state m b) q fs) → Then s l (t >>= (λ b. done (state m b))) p es R
+  -- a tree that gives exponents, which go into the state beside the pointers
+  then-bins : (t : Tree (List ℕ)) (m baps : List ℕ) (p : ℕ) (es : List Entry) (R : Point)
+      → ((b : Bins) (q : ℕ) (fs : List Entry) → Grows es fs → R (state m b) q fs) → Then s l (t >>= (λ e. done (state m (bins e baps)))) p es R
   unfolding after run
-  then-bins t m p es R h = rw (run-bind t (λ b. done (state m b)) s p l) (go (O .result))
+  then-bins t m baps p es R h = rw (run-bind t (λ e. done (state m (bins e baps))) s p l) (go (O .result))
     where
       O : Outcome (List ℕ)
       O = run t s p l
 
       F : List ℕ → ℕ → Outcome State
-      F b q = out (accepted (state m b)) q []
+      F e q = out (accepted (state m (bins e baps))) q []
 
       go : (r : Result (List ℕ)) (a : State) → andThen r (O .place) (O .records) F .result ≡ accepted a
           → R a (andThen r (O .place) (O .records) F .place) (es ++ andThen r (O .place) (O .records) F .records)
-      go (accepted b) a k = let z : state m b ≡ a = cc in subst (λ x. R x (O .place) (es ++ (O .records ++ []))) z (h b (O .place) _ (grows-append es _))
+      go (accepted e) a k = let z : state m (bins e baps) ≡ a = cc in subst (λ x. R x (O .place) (es ++ (O .records ++ []))) z (h (bins e baps) (O .place) _ (grows-append es _))
       go (refused n) a k = absurd (let z : _≡_ {A = ℕ} 0 1 = cc in omega arith)
 
   then-cons : (c : Bool) (x : Entry) (w : ℕ) (st : State) (p : ℕ) (es : List Entry) (R : Point) (a : State)
@@ -208,9 +209,9 @@ module _ (s : List ℕ) (l : ℕ) (Q : Item → List Entry → State → Type 0)
       go (refused n) c e = absurd (let z : _≡_ {A = ℕ} 0 1 = cc in omega arith)
 
   pub walked-exponents : (x : Sum) (name : ℕ) (i : Sum) (st : State) (p : ℕ) (es : List Entry) {R : Point}
-      → ((b : List ℕ) (q : ℕ) (fs : List Entry) → Grows es fs → R (state (st .cells) b) q fs) → Walked (exponents x name i) st p es R
+      → ((b : Bins) (q : ℕ) (fs : List Entry) → Grows es fs → R (state (st .cells) b) q fs) → Walked (exponents x name i) st p es R
   unfolding Inside item exponentsOf
-  walked-exponents x name i st p es {R} h = record { inside = tt; ends = then-bins s l (setOf _ _ _ _ _ _ _) (st .cells) p es R h }
+  walked-exponents x name i st p es {R} h = record { inside = tt; ends = then-bins s l (setOf _ _ _ _ _ _ _) (st .cells) (st .bins .baps) p es R h }
 
   pub walked-when : (c : Cond) (b : Block) (st : State) (p : ℕ) (es : List Entry) {R : Point}
       → (holdsOf c (st .cells) ≡ true → Walks b st p es R) → (holdsOf c (st .cells) ≡ false → R st p es) → Walked (when c b) st p es R

@@ -252,22 +252,22 @@ pub gains-same : (r : Gains) (o u : Outcome (List ℕ)) → o ≡ u → GainsOut
 gains-same r o u e g = record { gains = g .gains; tells = g .tells ∙ e; stored = g .stored }
 
 -- the active bins, i of them passed
-module _ (mode : ℕ) (bins : List ℕ) (slot start end : ℕ) where
-  pub active-none : activeIn mode bins slot start (end - start) ≡ 0 + activeIn mode bins slot start (end - start)
+module _ (mode : ℕ) (baps : List ℕ) (slot start end : ℕ) where
+  pub active-none : activeIn mode baps slot start (end - start) ≡ 0 + activeIn mode baps slot start (end - start)
   active-none = omega arith
 
-  module _ (i n whole : ℕ) (so : whole ≡ n + activeIn mode bins slot i (end - i)) where
+  module _ (i n whole : ℕ) (so : whole ≡ n + activeIn mode baps slot i (end - i)) where
     pub active-end : end ≤ i → n ≡ whole
     unfolding activeIn
     active-end h = let e : end - i ≡ 0 = omega arith in sym (so ∙ rw e (omega arith))
 
-    pub active-on : i < end → (a : Bool) → a ≡ activeOf mode (getD bins (1792 + 256 * slot + i) 0) → (m : ℕ) → m ≡ cond a (n + 1) n
-        → whole ≡ m + activeIn mode bins slot (i + 1) (end - (i + 1))
+    pub active-on : i < end → (a : Bool) → a ≡ activeOf mode (getD baps (256 * slot + i) 0) → (m : ℕ) → m ≡ cond a (n + 1) n
+        → whole ≡ m + activeIn mode baps slot (i + 1) (end - (i + 1))
     unfolding activeIn pointer
     active-on h a c m d =
         let e : end - i ≡ suc (end - (i + 1)) = omega arith in
         let f : i + 1 ≡ suc i = omega arith in
-        so ∙ rw (e, ← f, ← c, d) (go a (activeIn mode bins slot (i + 1) (end - (i + 1))))
+        so ∙ rw (e, ← f, ← c, d) (go a (activeIn mode baps slot (i + 1) (end - (i + 1))))
       where
         go : (a : Bool) (m : ℕ) → n + (cond a 1 0 + m) ≡ cond a (n + 1) n + m
         go true m = omega arith
@@ -281,41 +281,41 @@ pub next-is : (k mode hebap : ℕ) (a : Bool) → a ≡ activeOf mode hebap → 
 next-is k mode hebap a e r f = f ∙ rw e
 
 -- the bins, i of them read
-module _ (s : List ℕ) (l mode : ℕ) (gains bins : List ℕ) (slot end i k tags p : ℕ) where
-  pub bins-end : end ≤ i → outcome 0 tags p ≡ skim (binsOf mode gains bins slot i (end - i) k tags) s p l
+module _ (s : List ℕ) (l mode : ℕ) (gains baps : List ℕ) (slot end i k tags p : ℕ) where
+  pub bins-end : end ≤ i → outcome 0 tags p ≡ skim (binsOf mode gains baps slot i (end - i) k tags) s p l
   unfolding binsOf
   bins-end h = let e : end - i ≡ 0 = omega arith in rw e (sym (skim-stop s p l tags))
 
-  module _ (h : i < end) (hebap : ℕ) (c : hebap ≡ getD bins (1792 + 256 * slot + i) 0) (gain : ℕ) (d : gain ≡ gainOf mode gains k hebap)
+  module _ (h : i < end) (hebap : ℕ) (c : hebap ≡ getD baps (256 * slot + i) 0) (gain : ℕ) (d : gain ≡ gainOf mode gains k hebap)
       (number q t : ℕ) (e : outcome number t q ≡ skim (binOf hebap gain) s p l) where
-    one-bin : skim (binsOf mode gains bins slot i (end - i) k tags) s p l
-        ≡ skim (binOf hebap gain >>- (λ t. binsOf mode gains bins slot (i + 1) (end - (i + 1)) (nextActive mode k hebap) (tags + t))) s p l
+    one-bin : skim (binsOf mode gains baps slot i (end - i) k tags) s p l
+        ≡ skim (binOf hebap gain >>- (λ t. binsOf mode gains baps slot (i + 1) (end - (i + 1)) (nextActive mode k hebap) (tags + t))) s p l
     unfolding binsOf pointer
     one-bin =
         let e : end - i ≡ suc (end - (i + 1)) = omega arith in
         let f : i + 1 ≡ suc i = omega arith in
         rw (e, f, d, c)
 
-    pub bins-off : (number ≡ 0 → ⊥) → outcome number 0 q ≡ skim (binsOf mode gains bins slot i (end - i) k tags) s p l
+    pub bins-off : (number ≡ 0 → ⊥) → outcome number 0 q ≡ skim (binsOf mode gains baps slot i (end - i) k tags) s p l
     bins-off f = rw (ne-eqb number 0 f) (sym (one-bin ∙ bind-off _ s l (binOf hebap gain) p number q t e f))
 
     pub bins-on : number ≡ 0 → (k' : ℕ) → k' ≡ nextActive mode k hebap
-        → skim (binsOf mode gains bins slot i (end - i) k tags) s p l ≡ skim (binsOf mode gains bins slot (i + 1) (end - (i + 1)) k' (tags + t)) s q l
+        → skim (binsOf mode gains baps slot i (end - i) k tags) s p l ≡ skim (binsOf mode gains baps slot (i + 1) (end - (i + 1)) k' (tags + t)) s q l
     bins-on f k' g = one-bin ∙ bind-on _ s l (binOf hebap gain) p number q t e f ∙ rw g
 
 -- the whole
-module _ (s : List ℕ) (l : ℕ) (bins : List ℕ) (slot start n p : ℕ) (r : Look) (e : r ≡ lookOf s p 2 l) where
-  pub aht-past : r ≡ Past → outcome 8 0 p ≡ skim (ahtOf bins slot start n) s p l
+module _ (s : List ℕ) (l : ℕ) (baps : List ℕ) (slot start n p : ℕ) (r : Look) (e : r ≡ lookOf s p 2 l) where
+  pub aht-past : r ≡ Past → outcome 8 0 p ≡ skim (ahtOf baps slot start n) s p l
   unfolding ahtOf
   aht-past f = sym (look-past s p 2 l _ r e f)
 
-  module _ (mode q : ℕ) (f : r ≡ Found mode q) (m : ℕ) (c : m ≡ activeIn mode bins slot start n) (g : Gains) (d : GainsOutcome g (skim (gainsOf mode m) s q l)) where
-    after-mode : skim (ahtOf bins slot start n) s p l ≡ skim (gainsOf mode m >>- (λ gains. binsOf mode gains bins slot start n 0 0)) s q l
+  module _ (mode q : ℕ) (f : r ≡ Found mode q) (m : ℕ) (c : m ≡ activeIn mode baps slot start n) (g : Gains) (d : GainsOutcome g (skim (gainsOf mode m) s q l)) where
+    after-mode : skim (ahtOf baps slot start n) s p l ≡ skim (gainsOf mode m >>- (λ gains. binsOf mode gains baps slot start n 0 0)) s q l
     unfolding ahtOf
     after-mode = look-on s p 2 l _ r e mode q f ∙ rw c
 
-    pub aht-gains : (g .number ≡ 0 → ⊥) → outcome (g .number) 0 (g .place) ≡ skim (ahtOf bins slot start n) s p l
+    pub aht-gains : (g .number ≡ 0 → ⊥) → outcome (g .number) 0 (g .place) ≡ skim (ahtOf baps slot start n) s p l
     aht-gains h = rw (ne-eqb (g .number) 0 h) (sym (after-mode ∙ bind-off _ s l (gainsOf mode m) q (g .number) (g .place) (d .gains) (d .tells) h))
 
-    pub aht-bins : g .number ≡ 0 → (o : Outcome ℕ) → o ≡ skim (binsOf mode (d .gains) bins slot start n 0 0) s (g .place) l → o ≡ skim (ahtOf bins slot start n) s p l
+    pub aht-bins : g .number ≡ 0 → (o : Outcome ℕ) → o ≡ skim (binsOf mode (d .gains) baps slot start n 0 0) s (g .place) l → o ≡ skim (ahtOf baps slot start n) s p l
     aht-bins h o b = b ∙ sym (after-mode ∙ bind-on _ s l (gainsOf mode m) q (g .number) (g .place) (d .gains) (d .tells) h)

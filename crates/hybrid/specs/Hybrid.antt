@@ -15,8 +15,8 @@ activeOf mode hebap = ltb 7 hebap && ltb hebap (cond (ltb mode 2) 12 17)
 
 -- activegaqbins: how many of n bins from the bin `bin` on have one
 unfoldable pub activeIn : ℕ → List ℕ → ℕ → ℕ → ℕ → ℕ
-activeIn mode bins slot bin zero = 0
-activeIn mode bins slot bin (suc n) = cond (activeOf mode (pointer bins slot bin)) 1 0 + activeIn mode bins slot (suc bin) n
+activeIn mode baps slot bin zero = 0
+activeIn mode baps slot bin (suc n) = cond (activeOf mode (pointer baps slot bin)) 1 0 + activeIn mode baps slot (suc bin) n
 
 -- n gain words of one bit: gain 1, or the large one
 unfoldable pub singlesOf : ℕ → ℕ → List ℕ → Skim (List ℕ)
@@ -72,12 +72,12 @@ nextActive mode k hebap = cond (activeOf mode hebap) (k + 1) k
 
 -- n bins from the bin `bin` on, after k active bins and some tags
 unfoldable pub binsOf : ℕ → List ℕ → List ℕ → ℕ → ℕ → ℕ → ℕ → ℕ → Skim ℕ
-binsOf mode gains bins slot bin zero k tags = stop tags
-binsOf mode gains bins slot bin (suc n) k tags =
-    binOf (pointer bins slot bin) (gainOf mode gains k (pointer bins slot bin))
-    >>- (λ t. binsOf mode gains bins slot (suc bin) n (nextActive mode k (pointer bins slot bin)) (tags + t))
+binsOf mode gains baps slot bin zero k tags = stop tags
+binsOf mode gains baps slot bin (suc n) k tags =
+    binOf (pointer baps slot bin) (gainOf mode gains k (pointer baps slot bin))
+    >>- (λ t. binsOf mode gains baps slot (suc bin) n (nextActive mode k (pointer baps slot bin)) (tags + t))
 
 -- gaqmod, the gains, and n bins from the bin `bin` on; it tells how many tags there were
 unfoldable pub ahtOf : List ℕ → ℕ → ℕ → ℕ → Skim ℕ
-ahtOf bins slot bin n =
-    take 2 (λ mode. gainsOf mode (activeIn mode bins slot bin n) >>- (λ gains. binsOf mode gains bins slot bin n 0 0))
+ahtOf baps slot bin n =
+    take 2 (λ mode. gainsOf mode (activeIn mode baps slot bin n) >>- (λ gains. binsOf mode gains baps slot bin n 0 0))

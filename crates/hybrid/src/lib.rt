@@ -317,16 +317,16 @@ fn counted(n: usize, a: bool) -> usize
 }
 
 // How many bins of a range have a gain word.
-fn active_in(bins: &[u8; 3584], slot: u8, start: u16, end: u16, mode: u32) -> usize
-    requires { ⌜ (length (now bins) ≡ 3584) × (slot < 7) × (end ≤ 256) ⌝ }
-    ensures { λ r. ⌜ (r ≡ activeIn mode (now (bins .entry)) slot start (end - start)) × (r ≤ 256) ⌝ }
+fn active_in(baps: &[u8; 1792], slot: u8, start: u16, end: u16, mode: u32) -> usize
+    requires { ⌜ (length (now baps) ≡ 1792) × (slot < 7) × (end ≤ 256) ⌝ }
+    ensures { λ r. ⌜ (r ≡ activeIn mode (now (baps .entry)) slot start (end - start)) × (r ≤ 256) ⌝ }
 {
-    let base = 1792 + 256 * (slot as usize);
+    let base = 256 * (slot as usize);
     let mut n: usize = 0;
     let mut i = start;
     while i < end {
         let k = base + i as usize;
-        n = counted(n, active(mode, bins[k]));
+        n = counted(n, active(mode, baps[k]));
         i += 1;
     }
     n
@@ -346,7 +346,7 @@ fn gain_at(gain: &[u8; 258], k: usize, a: bool) -> u8
 // The bins of a range.
 fn read_bins(
     src: &[u8],
-    bins: &[u8; 3584],
+    baps: &[u8; 1792],
     slot: u8,
     start: u16,
     end: u16,
@@ -355,17 +355,17 @@ fn read_bins(
     at: u16,
     limit: u16,
 ) -> Tagged
-    requires { ⌜ (length (now bins) ≡ 3584) × (slot < 7) × (end ≤ 256) × (limit ≤ 8 * length (now src)) ⌝ }
-    ensures { λ r. ⌜ ((gains : List ℕ) → Gained (now (gain .entry)) gains → tagsOutcome r ≡ skim (binsOf mode gains (now (bins .entry)) slot start (end - start) 0 0) (now (src .entry)) at limit) × (r .tags ≤ 1536) ⌝ }
+    requires { ⌜ (length (now baps) ≡ 1792) × (slot < 7) × (end ≤ 256) × (limit ≤ 8 * length (now src)) ⌝ }
+    ensures { λ r. ⌜ ((gains : List ℕ) → Gained (now (gain .entry)) gains → tagsOutcome r ≡ skim (binsOf mode gains (now (baps .entry)) slot start (end - start) 0 0) (now (src .entry)) at limit) × (r .tags ≤ 1536) ⌝ }
 {
-    let base = 1792 + 256 * (slot as usize);
+    let base = 256 * (slot as usize);
     let mut p = at;
     let mut k: usize = 0;
     let mut tags: u16 = 0;
     let mut i = start;
     while i < end {
         let j = base + i as usize;
-        let hebap = bins[j];
+        let hebap = baps[j];
         let a = active(mode, hebap);
         let t = bin(src, p, limit, hebap, gain_at(gain, k, a));
         if t.number != 0 {
@@ -391,15 +391,15 @@ fn read_bins(
 // at the first bit of what would pass `limit`, 13 for a composite gain above 26.
 pub fn aht(
     src: &[u8],
-    bins: &[u8; 3584],
+    baps: &[u8; 1792],
     slot: u8,
     start: u16,
     end: u16,
     at: u16,
     limit: u16,
 ) -> Tagged
-    requires { ⌜ (length (now bins) ≡ 3584) × (slot < 7) × (end ≤ 256) × (limit ≤ 8 * length (now src)) ⌝ }
-    ensures { λ r. ⌜ (tagsOutcome r ≡ skim (ahtOf (now (bins .entry)) slot start (end - start)) (now (src .entry)) at limit) × (r .tags ≤ 1536) ⌝ }
+    requires { ⌜ (length (now baps) ≡ 1792) × (slot < 7) × (end ≤ 256) × (limit ≤ 8 * length (now src)) ⌝ }
+    ensures { λ r. ⌜ (tagsOutcome r ≡ skim (ahtOf (now (baps .entry)) slot start (end - start)) (now (src .entry)) at limit) × (r .tags ≤ 1536) ⌝ }
 {
     let Look::Found(mode, first) = raw(src, at, 2, limit) else {
         return Tagged {
@@ -413,7 +413,7 @@ pub fn aht(
         first,
         limit,
         mode,
-        active_in(bins, slot, start, end, mode),
+        active_in(baps, slot, start, end, mode),
     );
     if g.number != 0 {
         return Tagged {
@@ -423,5 +423,5 @@ pub fn aht(
         };
     }
     let gain = g.gain;
-    read_bins(src, bins, slot, start, end, mode, &gain, g.place, limit)
+    read_bins(src, baps, slot, start, end, mode, &gain, g.place, limit)
 }

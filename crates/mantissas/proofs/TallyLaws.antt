@@ -2,16 +2,19 @@
 use mathlib.Core.Path.{_≡_, refl, ap, sym, _∙_}
 use mathlib.Core.Bool.{Bool, true, false, cond}
 use mathlib.Core.List.{List, []}
+use mathlib.Core.Logic.{by-cases}
 use Prim.Native.Nat.{ℕ, zero, suc, _+_, _-_, _*_, _/_, _%_, _≤_, _<_}
 use native.Mathlib.Omega.{arith}
-use native.Mathlib.Decide.{ℕ-discrete}
+use native.Mathlib.Decide.{ℕ-discrete, decLt}
 use native.Mathlib.Nat.{zero-add, mod-add-mod}
 use lib.Dec.{eqb, ltb}
 use lib.ListN.{getD}
 use borrow.Author.Tests.{eq-eqb, ne-eqb, le-ltb}
 use Rattle.tables.specs.Small.{bapBits}
 use Rattle.tables.proofs.Limits.{bapBits-high}
+use Rattle.tables.proofs.Rule.{at-most}
 use Rattle.alloc.specs.Allocation.{tab}
+use Rattle.alloc.specs.Shares.{total}
 use Rattle.alloc.proofs.Lists.{getD-tab}
 use Rattle.reading.specs.Tree.{Skim, stop, take}
 use Rattle.reading.specs.Run.{Result, accepted, Outcome, out, skim}
@@ -22,53 +25,76 @@ use Rattle.mantissas.specs.declared.Groups.{Groups}
 use Rattle.mantissas.specs.declared.tally.Tally.{Tally}
 use Rattle.skim.proofs.SkimLaws.{skim-on, skim-stop}
 
+-- the table of shares, whose entries are small
+pub share-at : (b : ℕ) → b < 256 → getD (tab shareOf 0 256) b 0 ≡ shareOf b
+share-at b h = getD-tab shareOf 256 b h
+
+pub shares-small : (k : ℕ) → getD (tab shareOf 0 256) k 0 ≤ 281474976710656
+unfolding shareOf bapBits
+shares-small = at-most 281474976710656 (tab shareOf 0 256) tt
+
 -- one or none
 one-most : (t : Bool) → cond t 1 0 ≤ 1
 one-most true = omega arith
 one-most false = omega arith
 
-module _ (bins : List ℕ) (slot : ℕ) where
-  alone-most : (n i : ℕ) → aloneOf bins slot i n ≤ 16 * n
+module _ (baps : List ℕ) (slot : ℕ) where
+  alone-most : (n i : ℕ) → aloneOf baps slot i n ≤ 16 * n
   unfolding aloneOf
   alone-most zero i = omega arith
-  alone-most (suc n) i = omega (arith, alone-most n (suc i), bapBits-high (pointer bins slot i))
+  alone-most (suc n) i = omega (arith, alone-most n (suc i), bapBits-high (pointer baps slot i))
 
-  count-most : (b n i : ℕ) → countOf b bins slot i n ≤ n
+  count-most : (b n i : ℕ) → countOf b baps slot i n ≤ n
   unfolding countOf
   count-most b zero i = omega arith
-  count-most b (suc n) i = omega (arith, count-most b n (suc i), one-most (eqb (pointer bins slot i) b))
+  count-most b (suc n) i = omega (arith, count-most b n (suc i), one-most (eqb (pointer baps slot i) b))
 
   -- the sum of a pass: its start, a step, its end, and that it fits
-  pack-end : (i end : ℕ) → end ≤ i → packed (tallyOf bins slot i (end - i)) ≡ 0
+  pack-end : (i end : ℕ) → end ≤ i → packed (tallyOf baps slot i (end - i)) ≡ 0
   unfolding aloneOf countOf
   pack-end i end h = let e : end - i ≡ 0 = omega arith in rw e
 
-  pack-on : (i end : ℕ) → i < end → packed (tallyOf bins slot i (end - i)) ≡ shareOf (pointer bins slot i) + packed (tallyOf bins slot (i + 1) (end - (i + 1)))
+  pack-on : (i end : ℕ) → i < end → packed (tallyOf baps slot i (end - i)) ≡ shareOf (pointer baps slot i) + packed (tallyOf baps slot (i + 1) (end - (i + 1)))
   unfolding aloneOf countOf shareOf
   pack-on i end h =
       let q : end - i ≡ suc (end - (i + 1)) = omega arith in
       let r : i + 1 ≡ suc i = omega arith in
       rw (q, r) (omega arith)
 
-  pack-fits : (i n : ℕ) → n ≤ 256 → packed (tallyOf bins slot i n) < 18446744073709551616
+  pack-fits : (i n : ℕ) → n ≤ 256 → packed (tallyOf baps slot i n) < 18446744073709551616
   pack-fits i n h = omega (arith, alone-most n i, count-most 1 n i, count-most 2 n i, count-most 4 n i)
 
   module _ (shares : List ℕ) (made : shares ≡ tab shareOf 0 256) (start end x i : ℕ) (small : end ≤ 256)
-      (inv : x + packed (tallyOf bins slot i (end - i)) ≡ packed (tallyOf bins slot start (end - start)))
-      (h : i < end) (b : ℕ) (e : b ≡ getD bins (1792 + 256 * slot + i) 0) (f : b < 256) where
-    entry : getD shares b 0 ≡ shareOf (pointer bins slot i)
+      (inv : x + packed (tallyOf baps slot i (end - i)) ≡ packed (tallyOf baps slot start (end - start)))
+      (h : i < end) (b : ℕ) (e : b ≡ getD baps (256 * slot + i) 0) (f : b < 256) where
+    entry : getD shares b 0 ≡ shareOf (pointer baps slot i)
     unfolding pointer
     entry = rw (made, getD-tab shareOf 256 b f, e)
 
-    pub sum-on : x + getD shares b 0 + packed (tallyOf bins slot (i + 1) (end - (i + 1))) ≡ packed (tallyOf bins slot start (end - start))
+    pub sum-on : x + getD shares b 0 + packed (tallyOf baps slot (i + 1) (end - (i + 1))) ≡ packed (tallyOf baps slot start (end - start))
     sum-on = rw entry (omega (arith, pack-on i end h))
 
     pub sum-fits : x + getD shares b 0 < 18446744073709551616
     sum-fits = omega (arith, sum-on, pack-fits start (end - start) (omega arith))
 
-  pub sum-end : (start end x i : ℕ) → x + packed (tallyOf bins slot i (end - i)) ≡ packed (tallyOf bins slot start (end - start)) → end ≤ i
-      → x ≡ packed (tallyOf bins slot start (end - start))
+  pub sum-end : (start end x i : ℕ) → x + packed (tallyOf baps slot i (end - i)) ≡ packed (tallyOf baps slot start (end - start)) → end ≤ i
+      → x ≡ packed (tallyOf baps slot start (end - start))
   sum-end start end x i inv h = omega (arith, inv, pack-end i end h)
+
+  -- the shares of a range, added one after the other
+  module _ (f : ℕ → ℕ) (shares : (k : ℕ) → k < 256 → f k ≡ shareOf (pointer baps slot k)) (start end : ℕ) (small : end ≤ 256) where
+    so-far : (n : ℕ) → start + n ≤ end → total f start n + packed (tallyOf baps slot (start + n) (end - (start + n))) ≡ packed (tallyOf baps slot start (end - start))
+    so-far zero h = let e : start + 0 ≡ start = omega arith in rw e (zero-add _)
+    so-far (suc n) h =
+        let e : start + suc n ≡ start + n + 1 = omega arith in
+        rw e (omega (arith, so-far n (omega arith), pack-on (start + n) end (omega arith), shares (start + n) (omega arith)))
+
+    pub total-is : total f start (end - start) ≡ packed (tallyOf baps slot start (end - start))
+    total-is = by-cases (decLt end start)
+        (λ h. let e : end - start ≡ 0 = omega arith in ap (λ n. total f start n) e ∙ sym (pack-end start end (omega arith)))
+        (λ h. let e : start + (end - start) ≡ end = omega arith in
+        let z = so-far (end - start) (omega arith) in
+        omega (arith, z, pack-end (start + (end - start)) end (omega arith)))
 
   low-field : (a m : ℕ) → a < 65536 → (a + 65536 * m) % 65536 ≡ a
   low-field a m h = omega arith
@@ -87,9 +113,9 @@ module _ (bins : List ℕ) (slot : ℕ) where
         high-field (t .n2) (t .n4) c,
       )
 
-  pub unpacked : (i n : ℕ) → n ≤ 256 → fieldsOf (packed (tallyOf bins slot i n)) ≡ tallyOf bins slot i n
+  pub unpacked : (i n : ℕ) → n ≤ 256 → fieldsOf (packed (tallyOf baps slot i n)) ≡ tallyOf baps slot i n
   unpacked i n h =
-      fields (tallyOf bins slot i n) (omega (arith, alone-most n i)) (omega (arith, count-most 1 n i)) (omega (arith, count-most 2 n i))
+      fields (tallyOf baps slot i n) (omega (arith, alone-most n i)) (omega (arith, count-most 1 n i)) (omega (arith, count-most 2 n i))
 
 -- groups that n mantissas open
 opens-times : (k c : ℕ) → k * opensOf c 1 ≡ opensOf c k
@@ -193,20 +219,20 @@ module _ (g : Groups) (b : ℕ) (t : Tally) where
       go (no h) (no d) (no e) = rw (ne-eqb b 1 h, ne-eqb b 2 d, ne-eqb b 4 e) (simp zero-add)
 
 -- all mantissas of a range, where the last does not pass the end
-module _ (s : List ℕ) (bins : List ℕ) (slot l : ℕ) where
-  passes : (n i : ℕ) (g : Groups) (p : ℕ) → p + spentOf g (tallyOf bins slot i n) ≤ l
-      → skim (conventionalOf bins slot i n g) s p l ≡ out (accepted (leftOf g (tallyOf bins slot i n))) (p + spentOf g (tallyOf bins slot i n)) []
+module _ (s : List ℕ) (baps : List ℕ) (slot l : ℕ) where
+  passes : (n i : ℕ) (g : Groups) (p : ℕ) → p + spentOf g (tallyOf baps slot i n) ≤ l
+      → skim (conventionalOf baps slot i n g) s p l ≡ out (accepted (leftOf g (tallyOf baps slot i n))) (p + spentOf g (tallyOf baps slot i n)) []
   unfolding conventionalOf aloneOf countOf spentOf leftOf openedOf turnedOf
   passes zero i g p h = let e : p + 0 ≡ p = omega arith in skim-stop s p l g ∙ rw e
   passes (suc n) i g p h =
-      let b = pointer bins slot i in
+      let b = pointer baps slot i in
       let w = widthOf g b in
-      let t = tallyOf bins slot (suc i) n in
-      let e : p + spentOf g (tallyOf bins slot i (suc n)) ≡ p + w + spentOf (countedOf g b) t = omega (arith, spent-more g b t) in
+      let t = tallyOf baps slot (suc i) n in
+      let e : p + spentOf g (tallyOf baps slot i (suc n)) ≡ p + w + spentOf (countedOf g b) t = omega (arith, spent-more g b t) in
       skim-on s p l w _ (le-ltb l (p + w) (omega arith))
       ∙ passes n (suc i) (countedOf g b) (p + w) (omega arith)
       ∙ rw (e, left-more g b t)
 
-  pub outcome-all : (n i p w : ℕ) (g g' : Groups) (t : Tally) → t ≡ tallyOf bins slot i n → w ≡ spentOf g t → p + w ≤ l → g' ≡ leftOf g t
-      → out (accepted g') (p + w) [] ≡ skim (conventionalOf bins slot i n g) s p l
-  outcome-all n i p w g g' t e f h k = let z : p + spentOf g (tallyOf bins slot i n) ≤ l = rw (f, e) at h in sym (passes n i g p z ∙ rw (k, f, e))
+  pub outcome-all : (n i p w : ℕ) (g g' : Groups) (t : Tally) → t ≡ tallyOf baps slot i n → w ≡ spentOf g t → p + w ≤ l → g' ≡ leftOf g t
+      → out (accepted g') (p + w) [] ≡ skim (conventionalOf baps slot i n g) s p l
+  outcome-all n i p w g g' t e f h k = let z : p + spentOf g (tallyOf baps slot i n) ≤ l = rw (f, e) at h in sym (passes n i g p z ∙ rw (k, f, e))

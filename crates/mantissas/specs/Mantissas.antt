@@ -31,6 +31,6 @@ countedOf g bap =
 
 -- the mantissas of n bins, from the bin `bin` on
 unfoldable pub conventionalOf : List ℕ → ℕ → ℕ → ℕ → Groups → Skim Groups
-conventionalOf bins slot bin zero g = stop g
-conventionalOf bins slot bin (suc n) g =
-    take (widthOf g (pointer bins slot bin)) (λ _. conventionalOf bins slot (suc bin) n (countedOf g (pointer bins slot bin)))
+conventionalOf baps slot bin zero g = stop g
+conventionalOf baps slot bin (suc n) g =
+    take (widthOf g (pointer baps slot bin)) (λ _. conventionalOf baps slot (suc bin) n (countedOf g (pointer baps slot bin)))

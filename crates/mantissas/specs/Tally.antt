@@ -12,17 +12,17 @@ use Rattle.mantissas.specs.declared.tally.Tally.{Tally}
 
 -- the bits of the mantissas of n bins that stand alone, from the bin `bin` on
 unfoldable pub aloneOf : List ℕ → ℕ → ℕ → ℕ → ℕ
-aloneOf bins slot bin zero = 0
-aloneOf bins slot bin (suc n) = getD bapBits (pointer bins slot bin) 0 + aloneOf bins slot (suc bin) n
+aloneOf baps slot bin zero = 0
+aloneOf baps slot bin (suc n) = getD bapBits (pointer baps slot bin) 0 + aloneOf baps slot (suc bin) n
 
 -- how many of n bins have the pointer b
 unfoldable pub countOf : ℕ → List ℕ → ℕ → ℕ → ℕ → ℕ
-countOf b bins slot bin zero = 0
-countOf b bins slot bin (suc n) = cond (eqb (pointer bins slot bin) b) 1 0 + countOf b bins slot (suc bin) n
+countOf b baps slot bin zero = 0
+countOf b baps slot bin (suc n) = cond (eqb (pointer baps slot bin) b) 1 0 + countOf b baps slot (suc bin) n
 
 abbrev pub tallyOf : List ℕ → ℕ → ℕ → ℕ → Tally
-tallyOf bins slot bin n =
-    record { alone = aloneOf bins slot bin n; n1 = countOf 1 bins slot bin n; n2 = countOf 2 bins slot bin n; n4 = countOf 4 bins slot bin n }
+tallyOf baps slot bin n =
+    record { alone = aloneOf baps slot bin n; n1 = countOf 1 baps slot bin n; n2 = countOf 2 baps slot bin n; n4 = countOf 4 baps slot bin n }
 
 -- a tally in one number, with a field of 16 bits for each part; what a pointer adds to it; and the fields again
 abbrev pub packed : Tally → ℕ

@@ -3,7 +3,6 @@
 use crate::tally::Tally;
 use crate::tally::opened2;
 use crate::tally::opened3;
-use crate::tally::shares;
 use crate::tally::tallied;
 use crate::tally::turned2;
 use crate::tally::turned3;
@@ -13,11 +12,10 @@ ghost use mathlib.Core.Path.{_≡_};
 ghost use mathlib.Core.List.{List};
 ghost use Prim.Native.Nat.{ℕ, _+_, _-_, _%_, _<_, _≤_};
 ghost use lib.ListN.{length, getD};
-ghost use Rattle.alloc.specs.Allocation.{tab};
 ghost use Rattle.tables.specs.Small.{bapBits};
 ghost use Rattle.reading.specs.Run.{skim};
 ghost use Rattle.mantissas.specs.Mantissas.{opensOf, widthOf, countedOf, conventionalOf};
-ghost use Rattle.mantissas.specs.Tally.{shareOf, spentOf, leftOf};
+ghost use Rattle.mantissas.specs.Tally.{tallyOf, spentOf, leftOf};
 ghost use Rattle.mantissas.specs.Outcomes.{groupsOutcome};
 
 pub mod tally; // what the pointers of a range come to
@@ -121,7 +119,7 @@ fn counted(g: Groups, bap: u8) -> Groups
 // Passes the mantissas of the bins `start` to `end` - 1 of a slot, one by one: refusal 8 at the first bit of
 // the one that would pass `limit`.
 fn one_by_one(
-    bins: &[u8; 3584],
+    baps: &[u8; 1792],
     slot: u8,
     start: u16,
     end: u16,
@@ -129,17 +127,17 @@ fn one_by_one(
     at: BitPlace,
     limit: BitPlace,
 ) -> Passed
-    requires { ⌜ (length (now bins) ≡ 3584) × (slot < 7) × (end ≤ 256) ⌝ }
-    ensures { λ r. ⌜ ((s : List ℕ) → groupsOutcome r ≡ skim (conventionalOf (now (bins .entry)) slot start (end - start) g) s (at .0) (limit .0)) ⌝ }
+    requires { ⌜ (length (now baps) ≡ 1792) × (slot < 7) × (end ≤ 256) ⌝ }
+    ensures { λ r. ⌜ ((s : List ℕ) → groupsOutcome r ≡ skim (conventionalOf (now (baps .entry)) slot start (end - start) g) s (at .0) (limit .0)) ⌝ }
 {
-    let base = 1792 + 256 * (slot as usize);
+    let base = 256 * (slot as usize);
     let last = limit.0;
     let mut p = at.0;
     let mut q = g;
     let mut i = start;
     while i < end {
         let k = base + i as usize;
-        let bap = bins[k];
+        let bap = baps[k];
         let w = width(q, bap);
         if past(p, w, last) {
             return Passed {
@@ -177,12 +175,12 @@ fn left(g: Groups, t: Tally) -> Groups
     }
 }
 
-// Passes the mantissas of the bins `start` to `end` - 1 of a slot: refusal 8 at the first bit of the one
-// that would pass `limit`. What they take is counted first; one by one they are passed only where that is
-// too much.
+// Passes the mantissas of the bins `start` to `end` - 1 of a slot, whose tally is `t`: refusal 8 at the first
+// bit of the one that would pass `limit`. What they take follows from the tally; one by one they are passed
+// only where that is too much.
 pub fn pass(
-    shares: &[u64; 256],
-    bins: &[u8; 3584],
+    t: Tally,
+    baps: &[u8; 1792],
     slot: u8,
     start: u16,
     end: u16,
@@ -190,13 +188,12 @@ pub fn pass(
     at: BitPlace,
     limit: BitPlace,
 ) -> Passed
-    requires { ⌜ (now shares ≡ tab shareOf 0 256) × (length (now bins) ≡ 3584) × (slot < 7) × (end ≤ 256) ⌝ }
-    ensures { λ r. ⌜ ((s : List ℕ) → groupsOutcome r ≡ skim (conventionalOf (now (bins .entry)) slot start (end - start) g) s (at .0) (limit .0)) ⌝ }
+    requires { ⌜ (t ≡ tallyOf (now baps) slot start (end - start)) × (length (now baps) ≡ 1792) × (slot < 7) × (end ≤ 256) ⌝ }
+    ensures { λ r. ⌜ ((s : List ℕ) → groupsOutcome r ≡ skim (conventionalOf (now (baps .entry)) slot start (end - start) g) s (at .0) (limit .0)) ⌝ }
 {
-    let t = tallied(shares, bins, slot, start, end);
     let p = at.0 as u32 + spent(g, t);
     if (limit.0 as u32) < p {
-        return one_by_one(bins, slot, start, end, g, at, limit);
+        return one_by_one(baps, slot, start, end, g, at, limit);
     }
     Passed {
         refused: false,
@@ -205,9 +202,9 @@ pub fn pass(
     }
 }
 
-// The same by a table of its own.
+// The same, the tally counted here.
 pub fn conventional(
-    bins: &[u8; 3584],
+    baps: &[u8; 1792],
     slot: u8,
     start: u16,
     end: u16,
@@ -215,9 +212,9 @@ pub fn conventional(
     at: BitPlace,
     limit: BitPlace,
 ) -> Passed
-    requires { ⌜ (length (now bins) ≡ 3584) × (slot < 7) × (end ≤ 256) ⌝ }
-    ensures { λ r. ⌜ ((s : List ℕ) → groupsOutcome r ≡ skim (conventionalOf (now (bins .entry)) slot start (end - start) g) s (at .0) (limit .0)) ⌝ }
+    requires { ⌜ (length (now baps) ≡ 1792) × (slot < 7) × (end ≤ 256) ⌝ }
+    ensures { λ r. ⌜ ((s : List ℕ) → groupsOutcome r ≡ skim (conventionalOf (now (baps .entry)) slot start (end - start) g) s (at .0) (limit .0)) ⌝ }
 {
-    let t = shares();
-    pass(&t, bins, slot, start, end, g, at, limit)
+    let t = tallied(baps, slot, start, end);
+    pass(t, baps, slot, start, end, g, at, limit)
 }

@@ -1,5 +1,5 @@
-// What the pointers of a range come to, in one quick pass. `conventional` (mantissas.rt) has its answer
-// from this where the frame does not end before.
+// What the pointers of a range come to. Where the mantissas of a range end follows from it, if the frame does
+// not end before.
 ghost use mathlib.Core.Path.{_≡_};
 ghost use Prim.Native.Nat.{_-_, _<_, _≤_};
 ghost use lib.ListN.{length};
@@ -38,16 +38,16 @@ pub fn shares() -> [u64; 256]
 }
 
 // The sum of a pass over the bins `start` to `end` - 1 of a slot.
-fn sum(shares: &[u64; 256], bins: &[u8; 3584], slot: u8, start: u16, end: u16) -> u64
-    requires { ⌜ (now shares ≡ tab shareOf 0 256) × (length (now bins) ≡ 3584) × (slot < 7) × (end ≤ 256) ⌝ }
-    ensures { λ r. ⌜ r ≡ packed (tallyOf (now (bins .entry)) slot start (end - start)) ⌝ }
+fn sum(shares: &[u64; 256], baps: &[u8], slot: u8, start: u16, end: u16) -> u64
+    requires { ⌜ (now shares ≡ tab shareOf 0 256) × (length (now baps) ≡ 1792) × (slot < 7) × (end ≤ 256) ⌝ }
+    ensures { λ r. ⌜ r ≡ packed (tallyOf (now (baps .entry)) slot start (end - start)) ⌝ }
 {
-    let base = 1792 + 256 * (slot as usize);
+    let base = 256 * (slot as usize);
     let mut x: u64 = 0;
     let mut i = start;
     while i < end {
         let k = base + i as usize;
-        let b = wide(bins[k]);
+        let b = wide(baps[k]);
         x += shares[b];
         i += 1;
     }
@@ -61,7 +61,7 @@ fn wide(x: u8) -> usize
 }
 
 // The four fields of a sum.
-fn fields(x: u64) -> Tally
+pub fn fields(x: u64) -> Tally
     ensures { λ r. ⌜ r ≡ fieldsOf x ⌝ }
 {
     let y = x / 65536;
@@ -74,11 +74,13 @@ fn fields(x: u64) -> Tally
     }
 }
 
-pub fn tallied(shares: &[u64; 256], bins: &[u8; 3584], slot: u8, start: u16, end: u16) -> Tally
-    requires { ⌜ (now shares ≡ tab shareOf 0 256) × (length (now bins) ≡ 3584) × (slot < 7) × (end ≤ 256) ⌝ }
-    ensures { λ r. ⌜ r ≡ tallyOf (now (bins .entry)) slot start (end - start) ⌝ }
+// The tally of a range, counted.
+pub fn tallied(baps: &[u8; 1792], slot: u8, start: u16, end: u16) -> Tally
+    requires { ⌜ (length (now baps) ≡ 1792) × (slot < 7) × (end ≤ 256) ⌝ }
+    ensures { λ r. ⌜ r ≡ tallyOf (now (baps .entry)) slot start (end - start) ⌝ }
 {
-    fields(sum(shares, bins, slot, start, end))
+    let t = shares();
+    fields(sum(&t, baps, slot, start, end))
 }
 
 fn less(a: u32, b: u32) -> u32

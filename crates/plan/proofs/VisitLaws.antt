@@ -68,79 +68,79 @@ module _ {A : Type 0} (t r : Taking) (k : Along → Skim Along) (f : Along → S
       go (no h) = onward-off t _ s l h ∙ standing h (ℕ-discrete (r .number) 0)
 
 -- one slot
-module _ (bins : List ℕ) (shape : Shape) (slot : ℕ) (t : Taking) (s : List ℕ) (l : ℕ) where
-  pub visit-refused : (wanted : Bool) → (t .number ≡ 0 → ⊥) → takingOutcome t ≡ onward t (visitIf bins shape wanted slot) s l
-  visit-refused wanted h = rw (onward-off t (visitIf bins shape wanted slot) s l h, ne-eqb (t .number) 0 h)
+module _ (baps : List ℕ) (shape : Shape) (slot : ℕ) (t : Taking) (s : List ℕ) (l : ℕ) where
+  pub visit-refused : (wanted : Bool) → (t .number ≡ 0 → ⊥) → takingOutcome t ≡ onward t (visitIf baps shape wanted slot) s l
+  visit-refused wanted h = rw (onward-off t (visitIf baps shape wanted slot) s l h, ne-eqb (t .number) 0 h)
 
   outcome-here : t .number ≡ 0 → takingOutcome t ≡ skim (stop (along (t .groups) (t .tags))) s (t .place) l
   outcome-here h = rw (eq-eqb (t .number) 0 h) (sym (skim-stop s (t .place) l (along (t .groups) (t .tags))))
 
-  pub visit-unwanted : (wanted : Bool) → t .number ≡ 0 → wanted ≡ false → takingOutcome t ≡ onward t (visitIf bins shape wanted slot) s l
+  pub visit-unwanted : (wanted : Bool) → t .number ≡ 0 → wanted ≡ false → takingOutcome t ≡ onward t (visitIf baps shape wanted slot) s l
   unfolding visitIf
-  visit-unwanted wanted h w = outcome-here h ∙ sym (onward-on t (visitIf bins shape wanted slot) s l h ∙ rw w)
+  visit-unwanted wanted h w = outcome-here h ∙ sym (onward-on t (visitIf baps shape wanted slot) s l h ∙ rw w)
 
   module _ (wanted : Bool) (h : t .number ≡ 0) (w : wanted ≡ true) (b : Bool) (c : b ≡ readOf shape slot) where
-    pub visit-read : b ≡ true → takingOutcome t ≡ onward t (visitIf bins shape wanted slot) s l
+    pub visit-read : b ≡ true → takingOutcome t ≡ onward t (visitIf baps shape wanted slot) s l
     unfolding visitIf visitOf
-    visit-read d = outcome-here h ∙ sym (onward-on t (visitIf bins shape wanted slot) s l h ∙ rw (w, ← c, d))
+    visit-read d = outcome-here h ∙ sym (onward-on t (visitIf baps shape wanted slot) s l h ∙ rw (w, ← c, d))
 
     module _ (d : b ≡ false) (r : Range) (e : r ≡ rangeOf shape slot) (x : Bool) (f : x ≡ getD (shape .ahtinu) slot false) where
-      pub visit-aht : x ≡ true → (a : Tagged) → tagsOutcome a ≡ skim (ahtOf bins slot (r .start) (r .end - r .start)) s (t .place) l
-          → outcome (a .number) (along (t .groups) (t .tags + a .tags)) (a .place) ≡ onward t (visitIf bins shape wanted slot) s l
+      pub visit-aht : x ≡ true → (a : Tagged) → tagsOutcome a ≡ skim (ahtOf baps slot (r .start) (r .end - r .start)) s (t .place) l
+          → outcome (a .number) (along (t .groups) (t .tags + a .tags)) (a .place) ≡ onward t (visitIf baps shape wanted slot) s l
       unfolding visitIf visitOf
-      visit-aht g a i = sym (onward-on t (visitIf bins shape wanted slot) s l h ∙ rw (w, ← c, d, ← f, g, ← e) (go (ℕ-discrete (a .number) 0)))
+      visit-aht g a i = sym (onward-on t (visitIf baps shape wanted slot) s l h ∙ rw (w, ← c, d, ← f, g, ← e) (go (ℕ-discrete (a .number) 0)))
         where
-          go : Dec (a .number ≡ 0) → skim (ahtOf bins slot (r .start) (r .end - r .start) >>- (λ u. stop (along (t .groups) (t .tags + u)))) s (t .place) l
+          go : Dec (a .number ≡ 0) → skim (ahtOf baps slot (r .start) (r .end - r .start) >>- (λ u. stop (along (t .groups) (t .tags + u)))) s (t .place) l
               ≡ outcome (a .number) (along (t .groups) (t .tags + a .tags)) (a .place)
-          go (yes n) = bind-on _ s l (ahtOf bins slot (r .start) (r .end - r .start)) (t .place) (a .number) (a .place) (a .tags) i n ∙ skim-stop s (a .place) l _ ∙ rw (eq-eqb (a .number) 0 n)
-          go (no n) = bind-off _ s l (ahtOf bins slot (r .start) (r .end - r .start)) (t .place) (a .number) (a .place) (a .tags) i n ∙ rw (ne-eqb (a .number) 0 n)
+          go (yes n) = bind-on _ s l (ahtOf baps slot (r .start) (r .end - r .start)) (t .place) (a .number) (a .place) (a .tags) i n ∙ skim-stop s (a .place) l _ ∙ rw (eq-eqb (a .number) 0 n)
+          go (no n) = bind-off _ s l (ahtOf baps slot (r .start) (r .end - r .start)) (t .place) (a .number) (a .place) (a .tags) i n ∙ rw (ne-eqb (a .number) 0 n)
 
-      pub visit-conventional : x ≡ false → (p : Passed) → groupsOutcome p ≡ skim (conventionalOf bins slot (r .start) (r .end - r .start) (t .groups)) s (t .place) l
-          → (o : Outcome Along) → o ≡ out (orPast (p .refused) (along (p .groups) (t .tags))) (p .place .0) [] → o ≡ onward t (visitIf bins shape wanted slot) s l
+      pub visit-conventional : x ≡ false → (p : Passed) → groupsOutcome p ≡ skim (conventionalOf baps slot (r .start) (r .end - r .start) (t .groups)) s (t .place) l
+          → (o : Outcome Along) → o ≡ out (orPast (p .refused) (along (p .groups) (t .tags))) (p .place .0) [] → o ≡ onward t (visitIf baps shape wanted slot) s l
       unfolding visitIf visitOf
-      visit-conventional g p i o j = j ∙ sym (onward-on t (visitIf bins shape wanted slot) s l h ∙ rw (w, ← c, d, ← f, g, ← e) (go (p .refused) i))
+      visit-conventional g p i o j = j ∙ sym (onward-on t (visitIf baps shape wanted slot) s l h ∙ rw (w, ← c, d, ← f, g, ← e) (go (p .refused) i))
         where
-          go : (b : Bool) → out (orPast b (p .groups)) (p .place .0) [] ≡ skim (conventionalOf bins slot (r .start) (r .end - r .start) (t .groups)) s (t .place) l
-              → skim (conventionalOf bins slot (r .start) (r .end - r .start) (t .groups) >>- (λ u. stop (along u (t .tags)))) s (t .place) l
+          go : (b : Bool) → out (orPast b (p .groups)) (p .place .0) [] ≡ skim (conventionalOf baps slot (r .start) (r .end - r .start) (t .groups)) s (t .place) l
+              → skim (conventionalOf baps slot (r .start) (r .end - r .start) (t .groups) >>- (λ u. stop (along u (t .tags)))) s (t .place) l
               ≡ out (orPast b (along (p .groups) (t .tags))) (p .place .0) []
-          go true q = bind-off _ s l (conventionalOf bins slot (r .start) (r .end - r .start) (t .groups)) (t .place) 8 (p .place .0) (p .groups) q (λ z. absurd (let w : ⊥ = omega arith in w))
-          go false q = bind-on _ s l (conventionalOf bins slot (r .start) (r .end - r .start) (t .groups)) (t .place) 0 (p .place .0) (p .groups) q refl ∙ skim-stop s (p .place .0) l _
+          go true q = bind-off _ s l (conventionalOf baps slot (r .start) (r .end - r .start) (t .groups)) (t .place) 8 (p .place .0) (p .groups) q (λ z. absurd (let w : ⊥ = omega arith in w))
+          go false q = bind-on _ s l (conventionalOf baps slot (r .start) (r .end - r .start) (t .groups)) (t .place) 0 (p .place .0) (p .groups) q refl ∙ skim-stop s (p .place .0) l _
 
 pub passed-on : (b : Bool) (a : Along) (p : ℕ) → b ≡ true → out {A = Along} (refused 8) p [] ≡ out (orPast b a) p []
 passed-on b a p h = rw h
 
 -- the channels, ch of n passed
-module _ (bins : List ℕ) (shape : Shape) (s : List ℕ) (l n ch : ℕ) (got : Bool) (t : Taking) where
+module _ (baps : List ℕ) (shape : Shape) (s : List ℕ) (l n ch : ℕ) (got : Bool) (t : Taking) where
   opened : ch < n → (c : Bool) → c ≡ shape .cplinu && getD (shape .chincpl) ch false → (w : Bool) → w ≡ c && not got → (got' : Bool) → got' ≡ got || c
-      → (a : Along) → slotsOf bins shape ch (n - ch) got a ≡ visitIf bins shape true ch a >>- (λ a. visitIf bins shape w CPL a >>- (λ a. slotsOf bins shape (ch + 1) (n - (ch + 1)) got' a))
+      → (a : Along) → slotsOf baps shape ch (n - ch) got a ≡ visitIf baps shape true ch a >>- (λ a. visitIf baps shape w CPL a >>- (λ a. slotsOf baps shape (ch + 1) (n - (ch + 1)) got' a))
   unfolding slotsOf
   opened h c d w f got' i a =
       let q : n - ch ≡ suc (n - (ch + 1)) = omega arith in
       let r : ch + 1 ≡ suc ch = omega arith in
       rw (q, i, f, d, r)
 
-  pub slots-on : ch < n → (u : Taking) → takingOutcome u ≡ onward t (visitIf bins shape true ch) s l
+  pub slots-on : ch < n → (u : Taking) → takingOutcome u ≡ onward t (visitIf baps shape true ch) s l
       → (c : Bool) → c ≡ shape .cplinu && getD (shape .chincpl) ch false → (w : Bool) → w ≡ c && not got
-      → (v : Taking) → takingOutcome v ≡ onward u (visitIf bins shape w CPL) s l → (got' : Bool) → got' ≡ got || c
-      → onward t (slotsOf bins shape ch (n - ch) got) s l ≡ onward v (slotsOf bins shape (ch + 1) (n - (ch + 1)) got') s l
+      → (v : Taking) → takingOutcome v ≡ onward u (visitIf baps shape w CPL) s l → (got' : Bool) → got' ≡ got || c
+      → onward t (slotsOf baps shape ch (n - ch) got) s l ≡ onward v (slotsOf baps shape (ch + 1) (n - (ch + 1)) got') s l
   slots-on h u e c d w f v g got' i =
-      onward-same t (slotsOf bins shape ch (n - ch) got) (λ a. visitIf bins shape true ch a >>- (λ a. visitIf bins shape w CPL a >>- (λ a. slotsOf bins shape (ch + 1) (n - (ch + 1)) got' a))) s l (opened h c d w f got' i _)
-      ∙ onward-bind t u (visitIf bins shape true ch) (λ a. visitIf bins shape w CPL a >>- (λ a. slotsOf bins shape (ch + 1) (n - (ch + 1)) got' a)) s l e
-      ∙ onward-bind u v (visitIf bins shape w CPL) (λ a. slotsOf bins shape (ch + 1) (n - (ch + 1)) got' a) s l g
+      onward-same t (slotsOf baps shape ch (n - ch) got) (λ a. visitIf baps shape true ch a >>- (λ a. visitIf baps shape w CPL a >>- (λ a. slotsOf baps shape (ch + 1) (n - (ch + 1)) got' a))) s l (opened h c d w f got' i _)
+      ∙ onward-bind t u (visitIf baps shape true ch) (λ a. visitIf baps shape w CPL a >>- (λ a. slotsOf baps shape (ch + 1) (n - (ch + 1)) got' a)) s l e
+      ∙ onward-bind u v (visitIf baps shape w CPL) (λ a. slotsOf baps shape (ch + 1) (n - (ch + 1)) got' a) s l g
 
-  pub slots-end : n ≤ ch → (v : Taking) → takingOutcome v ≡ onward t (visitIf bins shape (shape .lfeon) LFE) s l
-      → outcome (v .number) (v .tags ∷ []) (v .place) ≡ onward t (slotsOf bins shape ch (n - ch) got) s l
+  pub slots-end : n ≤ ch → (v : Taking) → takingOutcome v ≡ onward t (visitIf baps shape (shape .lfeon) LFE) s l
+      → outcome (v .number) (v .tags ∷ []) (v .place) ≡ onward t (slotsOf baps shape ch (n - ch) got) s l
   unfolding slotsOf
   slots-end h v e =
       let q : n - ch ≡ 0 = omega arith in
-      sym (rw q (onward-bind t v (visitIf bins shape (shape .lfeon) LFE) (λ a. stop (a .tags ∷ [])) s l e ∙ last (ℕ-discrete (v .number) 0)))
+      sym (rw q (onward-bind t v (visitIf baps shape (shape .lfeon) LFE) (λ a. stop (a .tags ∷ [])) s l e ∙ last (ℕ-discrete (v .number) 0)))
     where
       last : Dec (v .number ≡ 0) → onward v (λ a. stop (a .tags ∷ [])) s l ≡ outcome (v .number) (v .tags ∷ []) (v .place)
       last (yes h) = onward-on v (λ a. stop (a .tags ∷ [])) s l h ∙ skim-stop s (v .place) l _ ∙ rw (eq-eqb (v .number) 0 h)
       last (no h) = onward-off v (λ a. stop (a .tags ∷ [])) s l h ∙ rw (ne-eqb (v .number) 0 h)
 
 -- the whole, from its start
-pub slots-all : (bins : List ℕ) (shape : Shape) (s : List ℕ) (l p n : ℕ) → n ≡ min (shape .nfchans) 5
-    → onward (record { number = 0; place = p; tags = 0; groups = record { g1 = 0; g2 = 0; g4 = 0 } }) (slotsOf bins shape 0 n false) s l ≡ skim (mantissasOf bins shape) s p l
+pub slots-all : (baps : List ℕ) (shape : Shape) (s : List ℕ) (l p n : ℕ) → n ≡ min (shape .nfchans) 5
+    → onward (record { number = 0; place = p; tags = 0; groups = record { g1 = 0; g2 = 0; g4 = 0 } }) (slotsOf baps shape 0 n false) s l ≡ skim (mantissasOf baps shape) s p l
 unfolding onward mantissasOf
-slots-all bins shape s l p n e = rw e
+slots-all baps shape s l p n e = rw e

@@ -19,7 +19,7 @@ pub record Along : Type 0 where
 abbrev pub along : Groups → ℕ → Along
 along g tags = record { groups = g; tags = tags }
 
-module _ (bins : List ℕ) (shape : Shape) where
+module _ (baps : List ℕ) (shape : Shape) where
   -- the mantissas of a slot
   unfoldable pub visitOf : ℕ → Along → Skim Along
   visitOf slot a =
@@ -27,8 +27,8 @@ module _ (bins : List ℕ) (shape : Shape) where
       let n = rangeOf shape slot .end - start in
       cond (readOf shape slot) (stop a)
       (cond (getD (shape .ahtinu) slot false)
-      (ahtOf bins slot start n >>- (λ t. stop (along (a .groups) (a .tags + t))))
-      (conventionalOf bins slot start n (a .groups) >>- (λ g. stop (along g (a .tags)))))
+      (ahtOf baps slot start n >>- (λ t. stop (along (a .groups) (a .tags + t))))
+      (conventionalOf baps slot start n (a .groups) >>- (λ g. stop (along g (a .tags)))))
 
   unfoldable pub visitIf : Bool → ℕ → Along → Skim Along
   visitIf wanted slot a = cond wanted (visitOf slot a) (stop a)

@@ -1,9 +1,9 @@
 // The mantissas of a block, slot by slot (A/52 clause 5.3.3, TS 102 366 clauses 4.3.3 and E.1.2.4).
+use allocation::memo::tally_at;
 use bits::BitPlace;
 use hybrid::aht;
 use mantissas::Groups;
 use mantissas::pass;
-use mantissas::tally::shares;
 use slots::CPL;
 use slots::LFE;
 use slots::Shape;
@@ -16,9 +16,8 @@ ghost use mathlib.Core.Bool.{cond, _&&_, _||_, not, false};
 ghost use mathlib.Core.List.{[]};
 ghost use Prim.Native.Nat.{_+_, _*_, _<_, _≤_, min};
 ghost use lib.ListN.{length, getD};
-ghost use Rattle.alloc.specs.Allocation.{tab};
 ghost use Rattle.reading.specs.Run.{skim, out};
-ghost use Rattle.mantissas.specs.Tally.{shareOf};
+ghost use Rattle.allocation.specs.Memo.{Tallies};
 ghost use Rattle.plan.specs.Plan.{along, visitIf, mantissasOf};
 ghost use Rattle.plan.specs.Taken.{takingOutcome, onward, taken};
 ghost use Rattle.skim.specs.Outcomes.{orPast};
@@ -40,18 +39,17 @@ pub struct Taken {
 
 // The mantissas of a slot, where it is wanted and no refusal stands.
 fn visit(
-    shares: &[u64; 256],
     src: &[u8],
-    bins: &[u8; 3584],
+    baps: &[u8; 1792],
+    memo: &[u64; 42],
     shape: Shape,
     wanted: bool,
     slot: u8,
     t: Taking,
     limit: u16,
 ) -> Taking
-    requires { ⌜ now shares ≡ tab shareOf 0 256 ⌝ }
-    requires { ⌜ (length (now bins) ≡ 3584) × (slot < 7) × (limit ≤ 8 * length (now src)) × (t .tags ≤ 32768) ⌝ }
-    ensures { λ r. ⌜ (takingOutcome r ≡ onward t (visitIf (now (bins .entry)) shape wanted slot) (now (src .entry)) limit) × (r .tags ≤ t .tags + 1536) ⌝ }
+    requires { ⌜ (Tallies (now memo) (now baps)) × (slot < 7) × (limit ≤ 8 * length (now src)) × (t .tags ≤ 32768) ⌝ }
+    ensures { λ r. ⌜ (takingOutcome r ≡ onward t (visitIf (now (baps .entry)) shape wanted slot) (now (src .entry)) limit) × (r .tags ≤ t .tags + 1536) ⌝ }
 {
     if t.number != 0 {
         return t;
@@ -65,7 +63,7 @@ fn visit(
     let r = range_at(shape, slot);
     let g = t.groups;
     if hybrid(shape, slot) {
-        let a = aht(src, bins, slot, r.start, r.end, t.place, limit);
+        let a = aht(src, baps, slot, r.start, r.end, t.place, limit);
         return Taking {
             number: a.number,
             place: a.place,
@@ -74,8 +72,8 @@ fn visit(
         };
     }
     let p = pass(
-        shares,
-        bins,
+        tally_at(memo, baps, slot, r.start, r.end),
+        baps,
         slot,
         r.start,
         r.end,
@@ -132,15 +130,15 @@ fn either(a: bool, b: bool) -> bool
 // channel last. Refusal 8 at the first bit of what would pass `limit`, 13 for a composite gain above 26.
 pub fn mantissas(
     src: &[u8],
-    bins: &[u8; 3584],
+    baps: &[u8; 1792],
+    memo: &[u64; 42],
     shape: Shape,
     at: BitPlace,
     limit: BitPlace,
 ) -> Taken
-    requires { ⌜ (length (now bins) ≡ 3584) × (limit .0 ≤ 8 * length (now src)) ⌝ }
-    ensures { λ r. ⌜ taken r ≡ skim (mantissasOf (now (bins .entry)) shape) (now (src .entry)) (at .0) (limit .0) ⌝ }
+    requires { ⌜ (Tallies (now memo) (now baps)) × (limit .0 ≤ 8 * length (now src)) ⌝ }
+    ensures { λ r. ⌜ taken r ≡ skim (mantissasOf (now (baps .entry)) shape) (now (src .entry)) (at .0) (limit .0) ⌝ }
 {
-    let table = shares();
     let last = limit.0;
     let n = least(shape.nfchans as u16, 5);
     let mut t = Taking {
@@ -157,13 +155,13 @@ pub fn mantissas(
     let mut ch: u16 = 0;
     while ch < n {
         let slot = ch as u8;
-        t = visit(&table, src, bins, shape, true, slot, t, last);
+        t = visit(src, baps, memo, shape, true, slot, t, last);
         let c = coupled(shape, slot);
-        t = visit(&table, src, bins, shape, first(c, got), CPL, t, last);
+        t = visit(src, baps, memo, shape, first(c, got), CPL, t, last);
         got = either(got, c);
         ch += 1;
     }
-    t = visit(&table, src, bins, shape, shape.lfeon, LFE, t, last);
+    t = visit(src, baps, memo, shape, shape.lfeon, LFE, t, last);
     Taken {
         number: t.number,
         place: BitPlace(t.place),

@@ -6,6 +6,7 @@ use mathlib.Core.List.{List}
 use native.Mathlib.Omega.{arith}
 use native.Mathlib.Nat.{mul-le-mul}
 use borrow.Author.Tests.{ne-eqb}
+use Rattle.slots.specs.Held.{Bins}
 use Rattle.cells.specs.Cells.{State, state, cellOf, putIn, addr, sum, heldOf, placeOf, sumOf}
 use Rattle.derivations.specs.Acted.{acted}
 use Rattle.derivations.specs.Derivations.{derived}
@@ -84,7 +85,7 @@ pub fill-ends : (w : ℕ) (m : List ℕ) (a : ℕ) → a ≡ heldOf (ofIn w) m �
 fill-ends w m a ea v ev i x e h k = let j : i ≡ manyIn w = omega arith in e ∙ ap (λ (n : ℕ). filled n (filledIn w) v m) j ∙ ap (λ (u : ℕ). filled (manyIn w) (filledIn w) u m) (ev ∙ ap (λ (u : ℕ). xIn w + yIn w * u) ea)
 
 -- what a row that reads nothing comes to
-module _ (w p : ℕ) (m b : List ℕ) where
+module _ (w p : ℕ) (m : List ℕ) (b : Bins) where
   pub deal-put : w % 16 ≡ 10 → (x : List ℕ) → x ≡ putIn m (placeOf (putAtIn w) m) (amountOf (valueIn w) p m) → Dealt w p (state m b) 0 (state x b)
   unfolding rowOf stepOf stopIn
   deal-put h x e = record { is = rw (h, e) refl }

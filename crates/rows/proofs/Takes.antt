@@ -21,17 +21,19 @@ use Rattle.reading.proofs.Rooms.{go-on, _then_, exec-bind}
 use Rattle.syntax.specs.Records.{part, outcome, goingAt, haltedAt}
 use Rattle.syntax.specs.Rooms.{Fills}
 use Rattle.syntax.specs.declared.Cursor.{Cursor}
-use Rattle.slots.specs.Held.{Held}
+use Rattle.slots.specs.Held.{Bins, bins}
 use Rattle.exponents.specs.Set.{setOf, SetRead}
 use Rattle.plan.specs.Taken.{taken}
 use Rattle.plan.specs.declared.Taken.{Taken}
+use Rattle.allocation.specs.Memo.{staleOf}
+use Rattle.allocation.proofs.MemoLaws.{memo-stale}
 use Rattle.cells.specs.Cells.{State, state, cellOf, putIn, placeOf, sumOf, stored, signed, partOf}
 use Rattle.cells.specs.Names.{ABSEXP, BLOCK}
 use Rattle.derivations.specs.Sets.{strategyOf, startOf, endOf, exponentsOf}
 use Rattle.derivations.specs.Shapes.{mantissasIn}
 use Rattle.rows.specs.Rows.{nameIn, widthIn, indexIn, keepIn, regionIn, slotIn}
 use Rattle.rows.specs.Steps.{inputIn, setIn}
-use Rattle.rows.specs.Reads.{looked, bitsOf, passedOf, Skimmed, recorded, Keeps, Looks, Sees, Takes, Gathers, setBy}
+use Rattle.rows.specs.Reads.{Right, looked, bitsOf, passedOf, Skimmed, recorded, Keeps, Looks, Sees, Takes, Gathers, setBy}
 use Rattle.rows.specs.declared.inputs.Look.{Look}
 use Rattle.rows.specs.declared.inputs.Set.{Set}
 
@@ -149,38 +151,40 @@ pub takes : {s : List ℕ} {l w : ℕ} {cells : List ℕ} {p q : ℕ} {m : Room}
 takes {q} {m} h k = record { is = λ b. k .is b ∙ sym (h .is b .is q m) }
 
 -- the mantissas, and a set of exponents
-module _ (s : List ℕ) (l w : ℕ) (bins cells : List ℕ) (p q : ℕ) (m : Room) where
-  pub gathers-mantissas : 4 ≤ w % 16 → w % 16 < 8 → Held bins → (x : Look) → Skimmed s l p (state cells bins) x → (c : Cursor) (cells′ : List ℕ) (m′ : Room) → Keeps w x cells p q m c cells′ m′
-      → Gathers s l w (state cells bins) p q m c (state cells′ bins) m′
-  gathers-mantissas lo hi h x sk c cells′ m′ k = record {
-    is = k .is bins ∙ sym (looks-mantissas s l w (state cells bins) p x lo sk .is q m) ∙ (rw (lt-ltb _ _ hi) refl);
-    held = h;
-    pointers = λ k h. refl;
+module _ (s : List ℕ) (l w : ℕ) (exps baps cells mem : List ℕ) (right : Right mem (bins exps baps)) (p q : ℕ) (m : Room) where
+  pub gathers-mantissas : 4 ≤ w % 16 → w % 16 < 8 → (x : Look) → Skimmed s l p (state cells (bins exps baps)) x → (c : Cursor) (cells′ : List ℕ) (m′ : Room) → Keeps w x cells p q m c cells′ m′
+      → Gathers s l w (state cells (bins exps baps)) p q m c (state cells′ (bins exps baps)) m′ mem
+  gathers-mantissas lo hi x sk c cells′ m′ k = record {
+    is = k .is (bins exps baps) ∙ sym (looks-mantissas s l w (state cells (bins exps baps)) p x lo sk .is q m) ∙ (rw (lt-ltb _ _ hi) refl);
+    right = right;
   }
 
   -- of a set that was read, the state
   module _ (x : Set) (ex : x ≡ setBy w cells) (c : Cursor) (bu : List ℕ) (m′ : Room)
-      (read : SetRead s l (part (x .name) (toZ w8 (ofZ w8 (x .block))) (toZ w16 (ofZ w16 (x .index)))) (x .slot) (x .strategy) (x .start) (x .end) (x .absexp) bins p q m c bu m′) where
-    set-told : outcome c (state cells bu) m′ ≡ exec s l (setIn w (state cells bins)) p q m
+      (read : SetRead s l (part (x .name) (toZ w8 (ofZ w8 (x .block))) (toZ w16 (ofZ w16 (x .index)))) (x .slot) (x .strategy) (x .start) (x .end) (x .absexp) exps p q m c bu m′) where
+    set-told : outcome c (state cells (bins bu baps)) m′ ≡ exec s l (setIn w (state cells (bins exps baps))) p q m
     unfolding exponentsOf go-on exec
-    set-told = sym (ap (λ (u : Tree State). exec s l u p q m) same ∙ exec-bind s l (tree x) (λ b. done (state cells b)) p q m ∙ ap (λ (o : Out (List ℕ)). o then (λ b p n m. exec s l (done (state cells b)) p n m)) (sym (read .is)) ∙ by (c .stopped))
+    set-told = sym (ap (λ (u : Tree State). exec s l u p q m) same ∙ exec-bind s l (tree x) (λ e. done (state cells (bins e baps))) p q m ∙ ap (λ (o : Out (List ℕ)). o then (λ e p n m. exec s l (done (state cells (bins e baps))) p n m)) (sym (read .is)) ∙ by (c .stopped))
       where
         tree : Set → Tree (List ℕ)
-        tree y = setOf (part (y .name) (toZ w8 (ofZ w8 (y .block))) (toZ w16 (ofZ w16 (y .index)))) (y .slot) (y .strategy) (y .start) (y .end) (y .absexp) bins
+        tree y = setOf (part (y .name) (toZ w8 (ofZ w8 (y .block))) (toZ w16 (ofZ w16 (y .index)))) (y .slot) (y .strategy) (y .start) (y .end) (y .absexp) exps
 
-        same : setIn w (state cells bins) ≡ (tree x >>= (λ b. done (state cells b)))
+        same : setIn w (state cells (bins exps baps)) ≡ (tree x >>= (λ e. done (state cells (bins e baps))))
         same =
             let y = setBy w cells in
-            ap (λ (q : Part). setOf q (y .slot) (y .strategy) (y .start) (y .end) (y .absexp) bins >>= (λ b. done (state cells b)))
+            ap (λ (q : Part). setOf q (y .slot) (y .strategy) (y .start) (y .end) (y .absexp) exps >>= (λ e. done (state cells (bins e baps))))
             (ap₂ (λ (b i : ℤ). part (nameIn w) b i) (sym (toZ-ofZ (block-fits (cellOf cells BLOCK)))) (sym (toZ-ofZ (index-fits (sumOf (indexIn w) cells)))))
-            ∙ ap (λ (y : Set). tree y >>= (λ b. done (state cells b))) (sym ex)
+            ∙ ap (λ (y : Set). tree y >>= (λ e. done (state cells (bins e baps)))) (sym ex)
 
-        by : (d : Bool) → go-on (cond d (refused (c .number)) (accepted bu)) (c .at .0) (c .count) m′ (λ b p n m. exec s l (done (state cells b)) p n m) ≡ got (cond d (refused (c .number)) (accepted (state cells bu))) (c .at .0) (c .count) m′
+        by : (d : Bool) → go-on (cond d (refused (c .number)) (accepted bu)) (c .at .0) (c .count) m′ (λ e p n m. exec s l (done (state cells (bins e baps))) p n m) ≡ got (cond d (refused (c .number)) (accepted (state cells (bins bu baps)))) (c .at .0) (c .count) m′
         by true = refl
         by false = refl
 
-    pub gathers-set : 8 ≤ w % 16 → Gathers s l w (state cells bins) p q m c (state cells bu) m′
-    gathers-set h = record { is = set-told ∙ (rw (le-ltb _ _ h) refl); held = read .held; pointers = read .laid .pointers }
+    pub gathers-set : 8 ≤ w % 16 → (mem′ : List ℕ) → mem′ ≡ staleOf mem (x .slot) → Gathers s l w (state cells (bins exps baps)) p q m c (state cells (bins bu baps)) m′ mem′
+    gathers-set h mem′ e = record {
+      is = set-told ∙ (rw (le-ltb _ _ h) refl);
+      right = record { held = read .held; memo = rw e (memo-stale mem exps bu baps (x .slot) (right .memo) (right .held .size) (read .held .size) (read .laid .before) (read .laid .after)) };
+    }
 
 -- what a set of exponents is read with
 pub set-is : (w : ℕ) (m : List ℕ) (name : ℕ) → name ≡ nameIn w → (a : ℕ) → a ≡ cellOf m BLOCK → (bl : ℤ) → bl ≡ signed 128 a → (z : ℕ) → z ≡ sumOf (indexIn w) m → (ix : ℤ) → ix ≡ signed 32768 z

@@ -4,14 +4,15 @@ use mathlib.Core.Bool.{cond}
 use mathlib.Core.List.{List, [], _∷_}
 use mathlib.Core.Path.{_≡_}
 use lib.Dec.{ltb, eqb}
-use lib.ListN.{length, getD}
+use lib.ListN.{length}
 use Rattle.bits.specs.Bits.{bitsAt}
 use Rattle.reading.specs.Run.{accepted, refused, out, skim, fieldOf}
 use Rattle.reading.specs.Room.{Room, Out, got, record-in, exec}
 use Rattle.syntax.specs.Records.{outcome}
 use Rattle.syntax.specs.Rooms.{Fills}
 use Rattle.syntax.specs.declared.Cursor.{Cursor}
-use Rattle.slots.specs.Held.{Held}
+use Rattle.slots.specs.Held.{Bins, Held}
+use Rattle.allocation.specs.Memo.{Memo}
 use Rattle.cells.specs.Cells.{State, state, cellOf, placeOf, sumOf, stored, signed, partOf}
 use Rattle.cells.specs.Names.{ABSEXP, BLOCK}
 use Rattle.derivations.specs.Sets.{strategyOf, startOf, endOf}
@@ -57,31 +58,35 @@ recorded w x st p q m =
 
 -- this was done: at the place p, with q records in the room, whatever the bins are
 pub record Keeps (w : ℕ) (x : Look) (cells : List ℕ) (p q : ℕ) (m : Room) (c : Cursor) (cells′ : List ℕ) (m′ : Room) : Type 0 where
-  pub is : (b : List ℕ) → outcome c (state cells′ b) m′ ≡ recorded w x (state cells b) p q m
+  pub is : (b : Bins) → outcome c (state cells′ b) m′ ≡ recorded w x (state cells b) p q m
 
 -- a row of input finds this at the place p; an element or a span does, whatever the bins are
 pub record Looks (s : List ℕ) (l w : ℕ) (st : State) (p : ℕ) (x : Look) : Type 0 where
   pub is : (q : ℕ) (m : Room) → exec s l (inputIn w st) p q m ≡ recorded w x st p q m
 
 pub record Sees (s : List ℕ) (l w : ℕ) (cells : List ℕ) (p : ℕ) (x : Look) : Type 0 where
-  pub is : (b : List ℕ) → Looks s l w (state cells b) p x
+  pub is : (b : Bins) → Looks s l w (state cells b) p x
 
 -- an element or a span was read once
 pub record Takes (s : List ℕ) (l w : ℕ) (cells : List ℕ) (p q : ℕ) (m : Room) (c : Cursor) (cells′ : List ℕ) (m′ : Room) : Type 0 where
-  pub is : (b : List ℕ) → outcome c (state cells′ b) m′ ≡ exec s l (inputIn w (state cells b)) p q m
+  pub is : (b : Bins) → outcome c (state cells′ b) m′ ≡ exec s l (inputIn w (state cells b)) p q m
 
--- the mantissas or a set of exponents are to be read: the frame ends within the data, the bins are held, and so many records fit into the room
-pub record Opens (s : List ℕ) (l w : ℕ) (bins : List ℕ) (most : ℕ) (m : Room) : Type 0 where
+-- no exponent is too large, and what is kept of allocations is right
+pub record Right (mem : List ℕ) (b : Bins) : Type 0 where
+  pub held : Held (b .exps)
+  pub memo : Memo mem (b .exps) (b .baps)
+
+-- the mantissas or a set of exponents are to be read: the frame ends within the data, bins and allocations are right, and so many records fit into the room
+pub record Opens (s : List ℕ) (l w : ℕ) (mem : List ℕ) (b : Bins) (most : ℕ) (m : Room) : Type 0 where
   pub kind : 4 ≤ w % 16
   pub within : l ≤ 8 * length s
-  pub held : Held bins
+  pub right : Right mem b
   pub fills : Fills most m
 
--- they were read: the mantissas by a row of a kind below 8. No pointer is changed
-pub record Gathers (s : List ℕ) (l w : ℕ) (st : State) (p q : ℕ) (m : Room) (c : Cursor) (st′ : State) (m′ : Room) : Type 0 where
+-- they were read: the mantissas by a row of a kind below 8
+pub record Gathers (s : List ℕ) (l w : ℕ) (st : State) (p q : ℕ) (m : Room) (c : Cursor) (st′ : State) (m′ : Room) (mem′ : List ℕ) : Type 0 where
   pub is : outcome c st′ m′ ≡ exec s l (cond (ltb (w % 16) 8) (inputIn w st) (setIn w st)) p q m
-  pub held : Held (st′ .bins)
-  pub pointers : (k : ℕ) → 1792 ≤ k → getD (st′ .bins) k 0 ≡ getD (st .bins) k 0
+  pub right : Right mem′ (st′ .bins)
 
 -- what a set of exponents is read with
 abbrev pub setBy : ℕ → List ℕ → Set

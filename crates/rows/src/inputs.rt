@@ -1,10 +1,13 @@
 // Input and output: bits are looked at, a record is made, a value is stored.
 ghost use mathlib.Core.Path.{_≡_};
-ghost use Prim.Native.Nat.{_+_, _*_, _%_, _≤_, _<_};
+ghost use mathlib.Core.List.{List};
+ghost use Prim.Native.Nat.{ℕ, _+_, _*_, _%_, _≤_, _<_};
 ghost use lib.Dec.{ltb};
 ghost use lib.ListN.{length};
 ghost use Rattle.reading.specs.Room.{room};
 ghost use Rattle.syntax.specs.Rooms.{Fills};
+ghost use Rattle.slots.specs.Held.{bins};
+ghost use Rattle.allocation.specs.Memo.{Tallies};
 ghost use Rattle.cells.specs.Cells.{state};
 ghost use Rattle.rows.specs.Reads.{Wide, Ready, looked, bitsOf, passedOf, Skimmed, Keeps, Sees, Takes, Opens, Gathers, setBy};
 use crate::fields::block_part;
@@ -14,6 +17,7 @@ use crate::fields::keep_of;
 use crate::fields::name_of;
 use crate::fields::slot_of;
 use crate::fields::width_of;
+use allocation::memo::stale;
 use bits::BitPlace;
 use bits::bits_at;
 use cells::cell_of;
@@ -90,11 +94,18 @@ fn span(at: u16, limit: u16, width: u16) -> Look
     }
 }
 
-fn mantissas(src: &[u8], cells: &[u16; 1024], bins: &[u8; 3584], at: u16, limit: u16) -> Look
-    requires { ⌜ (length (now bins) ≡ 3584) × (limit ≤ 8 * length (now src)) ⌝ }
-    ensures { λ r. ⌜ Skimmed (now (src .entry)) limit at (state (now (cells .entry)) (now (bins .entry))) r ⌝ }
+fn mantissas(
+    src: &[u8],
+    cells: &[u16; 1024],
+    baps: &[u8; 1792],
+    memo: &[u64; 42],
+    at: u16,
+    limit: u16,
+) -> Look
+    requires { ⌜ (Tallies (now memo) (now baps)) × (limit ≤ 8 * length (now src)) ⌝ }
+    ensures { λ r. ⌜ ((exps : List ℕ) → Skimmed (now (src .entry)) limit at (state (now (cells .entry)) (bins exps (now (baps .entry)))) r) ⌝ }
 {
-    let t = mantissas_in(src, cells, bins, BitPlace(at), BitPlace(limit));
+    let t = mantissas_in(src, cells, baps, memo, BitPlace(at), BitPlace(limit));
     let end = t.place.0;
     if t.number != 0 {
         return missed(t.number, end);
@@ -240,19 +251,21 @@ pub fn gather(
     widths: &mut [u16],
     values: &mut [u32],
     cells: &mut [u16; 1024],
-    bins: &mut [u8; 3584],
+    exps: &mut [u8; 1792],
+    baps: &[u8; 1792],
+    memo: &mut [u64; 42],
     at: u16,
     count: usize,
     limit: u16,
     most: usize,
     w: u64,
 ) -> Cursor
-    requires { ⌜ Opens (now src) limit w (now bins) most (room (now names) (now blocks) (now indexes) (now firsts) (now widths) (now values)) ⌝ }
-    ensures { λ r. ⌜ Gathers (now (src .entry)) limit w (state (now (cells .entry)) (now (bins .entry))) at count (room (now (names .entry)) (now (blocks .entry)) (now (indexes .entry)) (now (firsts .entry)) (now (widths .entry)) (now (values .entry)))
-        r (state (now (cells .exit)) (now (bins .exit))) (room (now (names .exit)) (now (blocks .exit)) (now (indexes .exit)) (now (firsts .exit)) (now (widths .exit)) (now (values .exit))) ⌝ }
+    requires { ⌜ Opens (now src) limit w (now memo) (bins (now exps) (now baps)) most (room (now names) (now blocks) (now indexes) (now firsts) (now widths) (now values)) ⌝ }
+    ensures { λ r. ⌜ Gathers (now (src .entry)) limit w (state (now (cells .entry)) (bins (now (exps .entry)) (now (baps .entry)))) at count (room (now (names .entry)) (now (blocks .entry)) (now (indexes .entry)) (now (firsts .entry)) (now (widths .entry)) (now (values .entry)))
+        r (state (now (cells .exit)) (bins (now (exps .exit)) (now (baps .entry)))) (room (now (names .exit)) (now (blocks .exit)) (now (indexes .exit)) (now (firsts .exit)) (now (widths .exit)) (now (values .exit))) (now (memo .exit)) ⌝ }
 {
     if w % 16 < 8 {
-        let l = mantissas(src, cells, bins, at, limit);
+        let l = mantissas(src, cells, baps, memo, at, limit);
         return keep(
             names,
             blocks,
@@ -269,6 +282,7 @@ pub fn gather(
         );
     }
     let x = set_of(w, cells);
+    stale(memo, x.slot);
     read_exponents(
         src,
         names,
@@ -277,7 +291,7 @@ pub fn gather(
         firsts,
         widths,
         values,
-        bins,
+        exps,
         at,
         count,
         limit,

@@ -3,7 +3,7 @@ ghost use mathlib.Core.Path.{_≡_};
 ghost use mathlib.Core.Bool.{cond};
 ghost use Prim.Native.Nat.{_+_, _-_, _*_, _/_, _%_, _≤_, _<_, min};
 ghost use lib.Dec.{eqb};
-ghost use Rattle.slots.specs.Held.{Held};
+ghost use Rattle.slots.specs.Held.{bins, Held};
 ghost use Rattle.allocation.specs.Memo.{Memo};
 ghost use Rattle.cells.specs.Cells.{state, cellOf, placeOf, heldOf, putIn};
 ghost use Rattle.rows.specs.Syntax.{amountOf, numberOf, countOf, filled};
@@ -184,11 +184,12 @@ pub fn deal(
     w: u64,
     at: u16,
     cells: &mut [u16; 1024],
-    bins: &mut [u8; 3584],
-    memo: &mut [u8; 2128],
+    exps: &[u8; 1792],
+    baps: &mut [u8; 1792],
+    memo: &mut [u64; 42],
 ) -> u8
-    requires { ⌜ (Held (now bins)) × (Memo (now memo) (now bins)) × (10 ≤ w % 16) × (w % 16 < 14) ⌝ }
-    ensures { λ r. ⌜ (Dealt w at (state (now (cells .entry)) (now (bins .entry))) r (state (now (cells .exit)) (now (bins .exit)))) × (Held (now (bins .exit))) × (Memo (now (memo .exit)) (now (bins .exit))) ⌝ }
+    requires { ⌜ (Held (now exps)) × (Memo (now memo) (now exps) (now baps)) × (10 ≤ w % 16) × (w % 16 < 14) ⌝ }
+    ensures { λ r. ⌜ (Dealt w at (state (now (cells .entry)) (bins (now (exps .entry)) (now (baps .entry)))) r (state (now (cells .exit)) (bins (now (exps .entry)) (now (baps .exit))))) × (Memo (now (memo .exit)) (now (exps .entry)) (now (baps .exit))) ⌝ }
 {
     let kind = w % 16;
     if kind == 10 {
@@ -208,7 +209,7 @@ pub fn deal(
         return 0;
     }
     if w / 16 % 2 == 0 {
-        return derive((w / 32 % 256) as u8, cells, bins, memo);
+        return derive((w / 32 % 256) as u8, cells, exps, baps, memo);
     }
     fill(w, cells);
     0

@@ -14,9 +14,9 @@ CPL = 5
 abbrev pub LFE : ℕ
 LFE = 6
 
--- bap[bin] or hebap[bin]: the pointers of a slot stand behind the exponents of all seven
+-- bap[bin] or hebap[bin] of a slot
 unfoldable pub pointer : List ℕ → ℕ → ℕ → ℕ
-pointer bins slot bin = getD bins (1792 + 256 * slot + bin) 0
+pointer baps slot bin = getD baps (256 * slot + bin) 0
 
 -- the bins of a slot, of which there are at most 253
 unfoldable pub rangeOf : Shape → ℕ → Range

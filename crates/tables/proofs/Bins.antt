@@ -1,13 +1,14 @@
 -- The bands and their bins: one computed test for each table, and what it says of each entry.
 -- Assumes nothing.
-use mathlib.Core.Path.{_≡_, refl, ap, subst, sym}
-use mathlib.Core.Bool.{Bool, true}
+use mathlib.Core.Path.{_≡_, refl, ap, subst, sym, _∙_}
+use mathlib.Core.Bool.{Bool, true, _||_}
 use mathlib.Core.List.{List, [], _∷_}
 use Prim.Native.Nat.{ℕ, zero, suc, _+_, _-_, _<_, _≤_}
 use native.Mathlib.Decide.{decLt, ℕ-discrete}
 use native.Mathlib.Numerals.{add-one}
 use native.Mathlib.Nat.{le-refl, le-trans, le-of-lt, le-of-suc-le-suc, not-suc-le-zero}
 use native.Mathlib.Omega.{arith}
+use borrow.Author.Tests.{lt-leb}
 use lib.Dec.{T, eqb, leb, ltb, eqb→eq, leb→le, ltb→lt}
 use lib.ListN.{length, getD}
 use Rattle.tables.specs.BitAllocation.{bndend, masktab}
@@ -115,3 +116,17 @@ next-band k h e =
     let s = last-end k h e in
     let b = same-band (endOf k) (suc k) e s (le-refl (endOf k)) (ends-step k s) in
     rw add-one (subst (BinBand (endOf k)) (sym b) (own-band (endOf k) e))
+
+-- the bands of the bins below 29 are numbered as these
+single : ℕ → ℕ → Bool
+single bin k = leb 29 bin || eqb k bin
+
+found-single : (bin k : ℕ) → bin < 29 → T (single bin k) → k ≡ bin
+unfolding single
+found-single bin k h t = eqb→eq k bin (rw (lt-leb 29 bin h) at t)
+
+pub single-band : (bin : ℕ) → bin < 29 → bandOf bin ≡ bin
+unfolding single masktab
+single-band bin h =
+    sym (masktab-band bin (omega arith) .band)
+    ∙ found-single bin (getD masktab bin 0) h (at single masktab tt bin (omega arith))

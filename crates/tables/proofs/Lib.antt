@@ -3,3 +3,4 @@ pub mod Edges
 pub mod Limits
 pub mod Neighbours
 pub mod Rule
+pub mod Stepped

@@ -1,3 +1,4 @@
 pub mod BitAllocation
 pub mod Bands
 pub mod Small
+pub mod Steps

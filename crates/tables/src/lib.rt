@@ -27,6 +27,7 @@ ghost use mathlib.Core.List.{_++_};
 ghost use lib.IntN.{pos};
 ghost use lib.ListN.{getD};
 ghost use Rattle.tables.specs.BitAllocation.{slowdec, fastdec, slowgain, dbpbtab, floortab, fastgain, bndend, masktab as maskTab, latab, hth, baptab, hebaptab};
+ghost use Rattle.tables.specs.Steps.{steps};
 ghost use Rattle.tables.specs.Small.{nfchans as nfChans, bapBits, vqBits, gaqBits, frmexpstr, defcplbndstrc, defspxbndstrc};
 
 // Log addition.
@@ -57,9 +58,9 @@ pub fn hearing() -> [u16; 150]
     HEARING
 }
 
-// BAP, and HEBAP from 64 on.
-pub fn pointers() -> [u8; 128]
-    ensures { λ r. ⌜ r ≡ baptab ++ hebaptab ⌝ }
+// BAP by steps, and HEBAP by steps from 512 on.
+pub fn pointers() -> [u8; 1024]
+    ensures { λ r. ⌜ r ≡ steps baptab 0 512 ++ steps hebaptab 0 512 ⌝ }
 {
     POINTERS
 }

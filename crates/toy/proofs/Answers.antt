@@ -29,5 +29,5 @@ answered s l m c st mu el e =
     shown-outcome c st mu ∙ ap shown (e ∙ exec-is s l (meaning frame start) 0 0 m ∙ ap (λ (n : ℕ). into 0 m (cut n (run (meaning frame start) s 0 l))) z)
     ∙ ap (λ (l : ℕ). shown (into 0 m (cut (size m) (run (meaning frame start) s 0 l)))) el
 
-pub held-start : Held (replicate 3584 0)
-held-start = record { size = length-replicate {A = ℕ} 3584 0; exps = λ k h. let z : getD {A = ℕ} (replicate 3584 0) k 0 ≡ 0 = getD-replicate {A = ℕ} 3584 k 0 0 (omega arith) in omega arith }
+pub held-start : Held (replicate 1792 0)
+held-start = record { size = length-replicate {A = ℕ} 1792 0; low = λ k h. let z : getD {A = ℕ} (replicate 1792 0) k 0 ≡ 0 = getD-replicate {A = ℕ} 1792 k 0 0 (omega arith) in omega arith }

@@ -6,6 +6,7 @@ use lib.ListN.{length, replicate}
 use Rattle.reading.specs.Run.{Result, accepted, refused, run}
 use Rattle.reading.specs.Room.{Room, cut, size, Out, got, into}
 use Rattle.syntax.specs.declared.Cursor.{Cursor}
+use Rattle.slots.specs.Held.{bins}
 use Rattle.cells.specs.Cells.{State, state}
 use Rattle.rows.specs.Syntax.{meaning}
 use Rattle.toy.specs.Toy.{frame}
@@ -25,7 +26,7 @@ abbrev pub limitOf : List ℕ → ℕ
 limitOf s = 8 * min (length s) 4096
 
 abbrev pub start : State
-start = state (replicate 1024 0) (replicate 3584 0)
+start = state (replicate 1024 0) (bins (replicate 1792 0) (replicate 1792 0))
 
 -- the syntax's tree, run on the data, and cut at the room
 abbrev pub parsed : List ℕ → Room → Out (Unit {0})

@@ -44,8 +44,9 @@ pub fn parse(
 {
     let table = rows();
     let mut cells: [u16; 1024] = [0; 1024];
-    let mut bins: [u8; 3584] = [0; 3584];
-    let mut memo: [u8; 2128] = [0; 2128];
+    let mut exps: [u8; 1792] = [0; 1792];
+    let mut baps: [u8; 1792] = [0; 1792];
+    let mut memo: [u64; 42] = [0; 42];
     let limit = limit_of(src);
     let most = least(
         names.len(),
@@ -65,7 +66,8 @@ pub fn parse(
         widths,
         values,
         &mut cells,
-        &mut bins,
+        &mut exps,
+        &mut baps,
         &mut memo,
         0,
         0,

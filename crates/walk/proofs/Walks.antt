@@ -18,14 +18,14 @@ use Rattle.syntax.specs.Records.{outcome, goingAt, haltedAt}
 use Rattle.syntax.specs.Rooms.{Same}
 use Rattle.syntax.specs.declared.Cursor.{Cursor}
 use Rattle.syntax.proofs.Rooms.{same-refl, same-trans, same-fills}
-use Rattle.allocation.proofs.MemoLaws.{memo-same}
 use Rattle.cells.specs.Cells.{State, state, cellOf, putIn, stored}
+use Rattle.slots.specs.Held.{Bins}
 use Rattle.rows.specs.Syntax.{Block, Item, element, elements, span, mantissas, exponents, when, each, reject, reject-at, put, fill, derive, end, _⨾_, countOf, turns, meaning}
 use Rattle.rows.specs.Rows.{flat, toIn, fromIn, counterIn, stopIn, skipOf, loopIn, rowOf}
 use Rattle.rows.specs.Steps.{Move, runs, go, deals, loops, dealing, dealtOf, stepOf, Dealt, oneIn, inputIn, setIn}
-use Rattle.rows.specs.Reads.{Ready, Takes, Opens, Gathers}
+use Rattle.rows.specs.Reads.{Right, Ready, Takes, Opens, Gathers}
 use Rattle.rows.specs.declared.steps.Loop.{Loop}
-use Rattle.walk.specs.Stands.{Stands, Stand, Right, Turned}
+use Rattle.walk.specs.Stands.{Stands, Stand, Turned}
 use Rattle.walk.proofs.Following.{narrow-at, narrow-width, one-turn, Follows, step-law}
 
 element-step : (w p : ℕ) (st : State) → w % 16 < 3 → stepOf (rowOf w) p st ≡ runs (turns (countOf (toIn w) (st .cells) - fromIn w) (fromIn w) (counterIn w) (oneIn w) st)
@@ -321,12 +321,9 @@ module _ (s : List ℕ) (l : ℕ) (t : List ℕ) (from to p₀ q₀ : ℕ) (st�
         })
 
         -- the mantissas, or a set of exponents
-        module _ (low : w % 16 % 15 < 8) (d : Cursor) (su : State) (mu : Room) (gathers : Gathers s l w st p q m d su mu) where
-          pub gather-right : Right mem (su .bins)
-          gather-right = record { held = gathers .held; memo = memo-same mem (st .bins) (su .bins) (inv .right .memo) (gathers .pointers) }
-
-          pub rows-gather : d .stopped ≡ false → Same m mu → RowsInv s l t from to p₀ q₀ st₀ m₀ (d .at .0) (d .count) su mu mem (pc + 1) left last
-          rows-gather e sm = onto (d .at .0) (d .count) su mu mem (pc + 1) sm gather-right (omega arith) (omega arith) (λ b h.
+        module _ (low : w % 16 % 15 < 8) (d : Cursor) (su : State) (mu : Room) (memu : List ℕ) (gathers : Gathers s l w st p q m d su mu memu) where
+          pub rows-gather : d .stopped ≡ false → Same m mu → RowsInv s l t from to p₀ q₀ st₀ m₀ (d .at .0) (d .count) su mu memu (pc + 1) left last
+          rows-gather e sm = onto (d .at .0) (d .count) su mu memu (pc + 1) sm (gathers .right) (omega arith) (omega arith) (λ b h.
               let a = rest-at b h in
               let f = follows (runs (inner w st)) (inner-step w p st kind low) (a .0) (a .1) in
               (f .0, f .1, a .2 ∙ ap (λ (y : Tree State). exec s l y p q m) (f .2) ∙ ran-on s l (inner w st) (meaning (f .0)) p q m d su mu (gathers .is) e))
@@ -381,7 +378,7 @@ module _ (s : List ℕ) (l : ℕ) (t : List ℕ) (from to p₀ q₀ : ℕ) (st�
           pub loop-within : (b : Block) → Stands t b from to → pc + 1 + x .rows ≤ to
           loop-within b h = omega (arith, looped b h .3 .ends)
 
-          pub loop-stand : (most : ℕ) (m₁ : Room) (bins₁ mem₁ : List ℕ) → Stand s l t bins₁ mem₁ most m₁ from to → Same m₁ m → Stand s l t (st .bins) mem most m (pc + 1) (pc + 1 + x .rows)
+          pub loop-stand : (most : ℕ) (m₁ : Room) (bins₁ : Bins) (mem₁ : List ℕ) → Stand s l t bins₁ mem₁ most m₁ from to → Same m₁ m → Stand s l t (st .bins) mem most m (pc + 1) (pc + 1 + x .rows)
           loop-stand most m₁ bins₁ mem₁ h sm =
               record { what = looped (h .what) (h .stands) .0; stands = looped (h .what) (h .stands) .2; table = h .table; within = h .within; right = inv .right; fills = same-fills sm most (h .fills) }
 
@@ -455,7 +452,7 @@ module _ (s : List ℕ) (l : ℕ) (t : List ℕ) (from to i n k p₀ q₀ : ℕ)
       }
 
 -- numbers of the loops
-module _ {s : List ℕ} {l : ℕ} {t bins mem : List ℕ} {most : ℕ} {m : Room} {from to : ℕ} (h : Stand s l t bins mem most m from to) where
+module _ {s : List ℕ} {l : ℕ} {t : List ℕ} {b : Bins} {mem : List ℕ} {most : ℕ} {m : Room} {from to : ℕ} (h : Stand s l t b mem most m from to) where
   pub stand-end : to ≤ 1023
   stand-end = omega (arith, h .stands .room, length-map t rowOf, h .table .sized)
 
@@ -471,8 +468,8 @@ module _ {s : List ℕ} {l : ℕ} {t bins mem : List ℕ} {most : ℕ} {m : Room
     fills = same-fills sm most (h .fills);
   }
 
-  pub stand-opens : (m′ : Room) → Same m m′ → (mem′ bins′ : List ℕ) → Right mem′ bins′ → (w : ℕ) → 4 ≤ w % 16 → Opens s l w bins′ most m′
-  stand-opens m′ sm mem′ bins′ hr w k = record { kind = k; within = h .within; held = hr .held; fills = same-fills sm most (h .fills) }
+  pub stand-opens : (m′ : Room) → Same m m′ → (mem′ : List ℕ) (bins′ : Bins) → Right mem′ bins′ → (w : ℕ) → 4 ≤ w % 16 → Opens s l w mem′ bins′ most m′
+  stand-opens m′ sm mem′ bins′ hr w k = record { kind = k; within = h .within; right = hr; fills = same-fills sm most (h .fills) }
 
 -- one turn, with no counter
 pub turned-once : {s : List ℕ} {l : ℕ} {t : List ℕ} {from to p q : ℕ} {st : State} {m : Room} {d : Cursor} {su : State} {mu : Room} {mem : List ℕ} → Turned s l t from to 0 1 0 p q st m d su mu mem

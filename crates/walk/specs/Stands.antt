@@ -9,11 +9,11 @@ use Rattle.reading.specs.Room.{Room, exec}
 use Rattle.syntax.specs.Records.{outcome}
 use Rattle.syntax.specs.Rooms.{Fills}
 use Rattle.syntax.specs.declared.Cursor.{Cursor}
-use Rattle.slots.specs.Held.{Held}
-use Rattle.allocation.specs.Memo.{Memo}
+use Rattle.slots.specs.Held.{Bins}
 use Rattle.cells.specs.Cells.{State}
 use Rattle.rows.specs.Syntax.{Block, turns, meaning}
 use Rattle.rows.specs.Rows.{flat, size, plain, rowOf, widthIn}
+use Rattle.rows.specs.Reads.{Right}
 
 -- the rows of a block stand in a table from one place to another
 pub record Stands (t : List ℕ) (b : Block) (from to : ℕ) : Type 0 where
@@ -35,18 +35,13 @@ pub record Table (t : List ℕ) : Type 0 where
   pub sized : length t ≤ 1023
   pub narrows : allNarrow t ≡ true
 
--- no exponent is too large, and what is stored of allocations is right
-pub record Right (mem bins : List ℕ) : Type 0 where
-  pub held : Held bins
-  pub memo : Memo mem bins
-
 -- the rows of some block stand there, the frame ends within the data, exponents and allocations are right, and so many records fit into the room
-pub record Stand (s : List ℕ) (l : ℕ) (t bins mem : List ℕ) (most : ℕ) (m : Room) (from to : ℕ) : Type 0 where
+pub record Stand (s : List ℕ) (l : ℕ) (t : List ℕ) (b : Bins) (mem : List ℕ) (most : ℕ) (m : Room) (from to : ℕ) : Type 0 where
   pub what : Block
   pub stands : Stands t what from to
   pub table : Table t
   pub within : l ≤ 8 * length s
-  pub right : Right mem bins
+  pub right : Right mem b
   pub fills : Fills most m
 
 -- a run of the rows for each number from i up to n is the tree of each block that they are

@@ -1,6 +1,7 @@
 // A bitstream syntax, run by a lent table of rows: one loop over the rows, and one over the turns of a loop.
 ghost use mathlib.Core.Path.{_≡_};
 ghost use Rattle.reading.specs.Room.{room};
+ghost use Rattle.slots.specs.Held.{bins};
 ghost use Rattle.cells.specs.Cells.{state};
 ghost use Rattle.walk.specs.Stands.{Stand, Turned};
 use bits::BitPlace;
@@ -30,8 +31,9 @@ pub fn each(
     widths: &mut [u16],
     values: &mut [u32],
     cells: &mut [u16; 1024],
-    bins: &mut [u8; 3584],
-    memo: &mut [u8; 2128],
+    exps: &mut [u8; 1792],
+    baps: &mut [u8; 1792],
+    memo: &mut [u64; 42],
     start: u16,
     had: usize,
     limit: u16,
@@ -42,9 +44,9 @@ pub fn each(
     n: u32,
     counter: usize,
 ) -> Cursor
-    requires { ⌜ Stand (now src) limit (now table) (now bins) (now memo) most (room (now names) (now blocks) (now indexes) (now firsts) (now widths) (now values)) from to ⌝ }
-    ensures { λ r. ⌜ Turned (now (src .entry)) limit (now (table .entry)) from to i n counter start had (state (now (cells .entry)) (now (bins .entry))) (room (now (names .entry)) (now (blocks .entry)) (now (indexes .entry)) (now (firsts .entry)) (now (widths .entry)) (now (values .entry)))
-        r (state (now (cells .exit)) (now (bins .exit))) (room (now (names .exit)) (now (blocks .exit)) (now (indexes .exit)) (now (firsts .exit)) (now (widths .exit)) (now (values .exit))) (now (memo .exit)) ⌝ }
+    requires { ⌜ Stand (now src) limit (now table) (bins (now exps) (now baps)) (now memo) most (room (now names) (now blocks) (now indexes) (now firsts) (now widths) (now values)) from to ⌝ }
+    ensures { λ r. ⌜ Turned (now (src .entry)) limit (now (table .entry)) from to i n counter start had (state (now (cells .entry)) (bins (now (exps .entry)) (now (baps .entry)))) (room (now (names .entry)) (now (blocks .entry)) (now (indexes .entry)) (now (firsts .entry)) (now (widths .entry)) (now (values .entry)))
+        r (state (now (cells .exit)) (bins (now (exps .exit)) (now (baps .exit)))) (room (now (names .exit)) (now (blocks .exit)) (now (indexes .exit)) (now (firsts .exit)) (now (widths .exit)) (now (values .exit))) (now (memo .exit)) ⌝ }
 {
     let mut at = start;
     let mut count = had;
@@ -98,7 +100,9 @@ pub fn each(
                     widths,
                     values,
                     cells,
-                    bins,
+                    exps,
+                    baps,
+                    memo,
                     at,
                     count,
                     limit,
@@ -114,7 +118,7 @@ pub fn each(
             } else if kind < 10 {
                 pc += 1 + skip(w, cells);
             } else if kind < 14 {
-                let number = deal(w, at, cells, bins, memo);
+                let number = deal(w, at, cells, exps, baps, memo);
                 if number != 0 {
                     return halted(BitPlace(stop_at(w, at, cells)), count, number);
                 }
@@ -132,7 +136,8 @@ pub fn each(
                     widths,
                     values,
                     cells,
-                    bins,
+                    exps,
+                    baps,
                     memo,
                     at,
                     count,

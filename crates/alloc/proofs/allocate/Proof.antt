@@ -1,4 +1,6 @@
-use mathlib.Core.Path.{_∙_}
+use mathlib.Core.Path.{_≡_, refl}
+use native.Mathlib.Omega.{arith}
+use Prim.Native.Nat.{_-_}
 use Rattle.alloc.specs.Allocation.{pointer, allocation}
 use Rattle.alloc.proofs.Carry.{levels-are}
 use Rattle.alloc.proofs.Lists.{written-empty}
@@ -10,17 +12,17 @@ returns : tie.Need-returns
 unfolding allocation
 returns c =
     let a = c .before .before .before .before .before .before .before .args in
-    written-empty (pointer (a .kind) (a .exps .now) (a .c) (a .p) (a .l) (a .d)) (a .c .start) (a .c .end) 256 _ _ (c .before .before .before .before .before .before .before .pre .1 .0 .1) (c .before .before .before .before .if1 .taken)
-    (c .before .before .clear .ensures)
+    let z : a .c .end - a .c .start ≡ 0 = omega (arith, c .before .before .before .before .if1 .taken) in
+    (written-empty (pointer (a .kind) (a .exps .now) (a .c) (a .p) (a .l) (a .d)) (a .c .start) (a .c .end) 256 _ _ (c .before .before .before .before .before .before .before .pre .1 .0 .1) (c .before .before .before .before .if1 .taken) (c .before .before .clear .ensures), rw z refl)
 
 allocate-some-requires : tie.Need-allocate-some-requires
 allocate-some-requires c κs =
     let p = c .before .before .before .before .before .before .before .before .pre in
-    let r = p .1 .1 .0 in (
+    let r = p .1 .1 .0 .0 in (
       p .0,
       (
         (c .before .before .before .before .before .if1 .left, r .within, p .1 .0 .0, p .1 .0 .1),
-        (c .before .before .leaks-of .ensures .1, r .segs, c .before .before .before .levels-of .ensures .1, c .before .base-of .ensures .1),
+        ((c .before .before .leaks-of .ensures .1, r .segs, c .before .before .before .levels-of .ensures .1, c .before .base-of .ensures .1), p .1 .1 .1),
       ),
     )
 
@@ -28,8 +30,8 @@ returns-2 : tie.Need-returns-2
 returns-2 c =
     let a = c .before .before .before .before .before .before .before .before .before .before .before .args in
     let p = c .before .before .before .before .before .before .before .before .before .before .before .pre in
-    (rw (c .before .before .before .before .before .before .before .gains-of .ensures, c .before .before .before .before .before .before .levels-of .ensures .0, c .before .before .before .before .before .leaks-of .ensures .0, c .before .before .before .before .base-of .ensures .0, p .0 .points) at (c .before .before .allocate-some .ensures))
-    ∙ levels-are (a .kind) (a .exps .now) (a .c) (a .p) (a .l) (a .d) (c .before .before .before .before .before .before .before .before .if1 .left) (p .1 .0 .0) (p .1 .1 .0) (p .1 .1 .1)
+    let is = levels-are (a .kind) (a .exps .now) (a .c) (a .p) (a .l) (a .d) (c .before .before .before .before .before .before .before .before .if1 .left) (p .1 .0 .0) (p .1 .1 .0 .0) (p .1 .1 .0 .1) in
+    rw (c .before .before .before .before .before .before .before .gains-of .ensures, c .before .before .before .before .before .before .levels-of .ensures .0, c .before .before .before .before .before .leaks-of .ensures .0, c .before .before .before .before .base-of .ensures .0, p .0 .points, is) at (c .before .before .allocate-some .ensures)
 
 pub allocate-spec : {M : Type 1} → statement M
 allocate-spec =

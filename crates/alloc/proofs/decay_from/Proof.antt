@@ -36,7 +36,7 @@ returns c =
     let e = at .before .args .last in
     let b = at .loop .b in
     let l : lfeLast e b ≡ true = sym (c .before .lfe-last .ensures) ∙ c .if1 .taken in
-    sym (at .loop .inv .2 ∙ on bnd e b (omega arith) ∙ simp l)
+    (sym (at .loop .inv .2 ∙ on bnd e b (omega arith) ∙ simp l), omega arith)
 
 returns-2 : tie.Need-returns-2 Inv-loop μ-loop
 returns-2 c =
@@ -45,7 +45,7 @@ returns-2 c =
     let e = at .before .args .last in
     let b = at .loop .b in
     let l : lfeLast e b ≡ false = sym (c .before .before .before .before .lfe-last .ensures) ∙ c .before .before .before .if1 .left in
-    sym (at .loop .inv .2 ∙ on bnd e b (omega arith) ∙ simp (l, le-leb _ _ (c .if2 .taken)))
+    (sym (at .loop .inv .2 ∙ on bnd e b (omega arith) ∙ simp (l, le-leb _ _ (c .if2 .taken))), omega arith)
 
 loop-again : tie.Need-loop-again Inv-loop μ-loop
 loop-again c =
@@ -61,7 +61,7 @@ unfolding decayFromL
 returns-3 c =
     let at = c .before in
     let e : at .loop .b ≡ 7 = omega arith in
-    e ∙ sym (at .loop .inv .2 ∙ rw e)
+    (e ∙ sym (at .loop .inv .2 ∙ rw e), omega arith)
 
 pub decay-from-spec : {M : Type 1} → statement M
 decay-from-spec =

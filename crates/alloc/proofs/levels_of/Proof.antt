@@ -14,7 +14,7 @@ returns c =
     let p = c .before .before .before .before .before .pre in
     let e = c .before .before .level .ensures in
     let z = ap levelOf (toZ-ofZ w32 (q .floor) (floor-fits (q .floor) (p .least) (p .most))) in
-    (rw (c .before .wide .ensures, c .wide2 .ensures, e .0 ∙ z) refl, record { rate = p .rate; knee = omega (arith, p .knee); floor = e .1 })
+    (rw (c .before .wide .ensures, c .wide2 .ensures, e .0 ∙ z) refl, record { rate = p .rate; knee = omega (arith, p .knee); least = e .1; most = e .2; offset = omega (arith, c .before .wide .ensures, c .wide2 .ensures) })
 
 pub levels-of-spec : {M : Type 1} → statement M
 levels-of-spec =

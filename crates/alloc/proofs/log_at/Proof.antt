@@ -1,8 +1,9 @@
-use mathlib.Core.Path.{ap, _∙_}
+use mathlib.Core.Path.{refl, ap, _∙_}
 use native.Mathlib.Omega.{arith}
 use lib.ListN.{getD}
 use Prim.Native.Nat.{_≤_}
 use native.Mathlib.Nat.{min-eq-left, min-eq-right}
+use Rattle.tables.specs.BitAllocation.{latab}
 use Rattle.tables.proofs.Neighbours.{latab-high}
 use borrow.Author.Needs.{needs}
 use Rattle.alloc.proofs.log_at.Statement.{statement}
@@ -16,12 +17,11 @@ returns c =
     (rw (min-eq-left h) e, rw e (latab-high (a .h)))
 
 returns-2 : tie.Need-returns-2
+unfolding latab
 returns-2 c =
-    let h : 255 ≤ c .before .before .before .args .h = omega arith in
-    let e = c .wide2 .ensures ∙ ap (λ t. getD t 255 0) (c .before .before .before .pre) in
-    (rw (min-eq-right h) e, rw e (latab-high 255))
+    let h : 255 ≤ c .before .args .h = omega arith in
+    (rw (min-eq-right h) refl, omega arith)
 
 pub log-at-spec : {M : Type 1} → statement M
 log-at-spec =
-    tie.close (tie.spec (λ c. search needs) (λ c κs. search needs) (λ c. search needs) (λ c κs. search needs) returns
-    returns-2)
+    tie.close (tie.spec (λ c. search needs) (λ c κs. search needs) returns returns-2)

@@ -1,5 +1,7 @@
 use Rattle.tables.proofs.Limits.{fastgain-high}
+use native.Mathlib.Omega.{arith}
 use Rattle.alloc.proofs.Codes.{codes-tuned}
+use Rattle.alloc.proofs.Lists.{zeros}
 use Rattle.alloc_host.proofs.Leaks.{leak-low}
 use borrow.Author.Needs.{needs}
 use Rattle.alloc_host.proofs.alloc_by_codes.Statement.{statement}
@@ -7,34 +9,37 @@ use Rattle.alloc_host.proofs.alloc_by_codes.Tie as tie
 
 allocate-requires : tie.Need-allocate-requires
 allocate-requires c κs =
-    let a = c .before .before .before .before .before .before .before .before .before .before .before .before .before .before .before .before .before .before .before .before .args in
-    let p = c .before .before .before .before .before .before .before .before .before .before .before .before .before .before .before .before .before .before .before .before .pre in
+    let a = c .before .before .before .before .before .before .before .before .before .before .before .before .before .before .before .before .before .before .before .before .before .args in
+    let p = c .before .before .before .before .before .before .before .before .before .before .before .before .before .before .before .before .before .before .before .before .before .pre in
     let r = p .1 in
     let l = leak-low (a .coupling) (a .cplfleak) (a .cplsleak) (r .3) (r .4) in (
       record {
-        log = c .before .before .before .before .before .before .before .before .before .before .before .before .before .before .before .before .before .log-add .ensures;
-        bins = c .before .before .before .before .before .before .before .before .before .before .before .before .before .before .before .before .masktab .ensures;
-        ends = c .before .before .before .before .before .before .before .before .before .before .before .before .before .before .before .band-end .ensures;
-        heard = c .before .before .before .before .before .before .before .before .before .before .before .before .before .before .hearing .ensures;
-        points = c .before .before .before .before .before .before .before .before .before .before .before .before .before .pointers .ensures;
+        log = c .before .before .before .before .before .before .before .before .before .before .before .before .before .before .before .before .before .before .log-add .ensures;
+        bins = c .before .before .before .before .before .before .before .before .before .before .before .before .before .before .before .before .before .masktab .ensures;
+        ends = c .before .before .before .before .before .before .before .before .before .before .before .before .before .before .before .before .band-end .ensures;
+        heard = c .before .before .before .before .before .before .before .before .before .before .before .before .before .before .before .hearing .ensures;
+        points = c .before .before .before .before .before .before .before .before .before .before .before .before .before .before .pointers .ensures;
       },
       (
         p .0,
         (
-          record {
-            within = r .0;
-            fgain = rw (c .before .before .before .before .before .before .before .before .before .before .before .before .fast-gain .ensures) (fastgain-high (a .fgaincod));
-            fast = rw (c .before .before .before .before .before .before .before .before .before .before .leak-by .ensures) (l .0);
-            slow = rw (c .before .before .before .before .before .before .before .before .before .before .leak-by .ensures) (l .1);
-            segs = r .1;
-          },
-          rw (c .before .before .before .before .before .before .before .before .before .before .before .params-of .ensures) (codes-tuned (a .sdcycod) (a .fdcycod) (a .sgaincod) (a .dbpbcod) (a .floorcod) (a .fscod) (r .2)),
+          (
+            record {
+              within = r .0;
+              fgain = rw (c .before .before .before .before .before .before .before .before .before .before .before .before .before .fast-gain .ensures) (fastgain-high (a .fgaincod));
+              fast = rw (c .before .before .before .before .before .before .before .before .before .before .before .leak-by .ensures) (l .0);
+              slow = rw (c .before .before .before .before .before .before .before .before .before .before .before .leak-by .ensures) (l .1);
+              segs = r .1;
+            },
+            rw (c .before .before .before .before .before .before .before .before .before .before .before .before .params-of .ensures) (codes-tuned (a .sdcycod) (a .fdcycod) (a .sgaincod) (a .dbpbcod) (a .floorcod) (a .fscod) (r .2)),
+          ),
+          λ k. let z = zeros 256 k in omega arith,
         ),
       ),
     )
 
 returns : tie.Need-returns
-returns c = rw (c .before .before .before .before .before .before .before .before .before .pointers-of .ensures, c .before .before .before .before .before .before .before .before .before .before .before .before .before .before .before .fast-gain .ensures, c .before .before .before .before .before .before .before .before .before .before .before .before .before .before .params-of .ensures, c .before .before .before .before .before .before .before .before .before .before .before .before .before .leak-by .ensures) at (c .before .before .allocate .ensures)
+returns c = rw (c .before .before .before .before .before .before .before .before .before .before .pointers-of .ensures, c .before .before .before .before .before .before .before .before .before .before .before .before .before .before .before .before .fast-gain .ensures, c .before .before .before .before .before .before .before .before .before .before .before .before .before .before .before .params-of .ensures, c .before .before .before .before .before .before .before .before .before .before .before .before .before .before .leak-by .ensures) at (c .before .before .allocate .ensures .0)
 
 pub alloc-by-codes-spec : {M : Type 1} → statement M
 alloc-by-codes-spec =

@@ -6,7 +6,7 @@ use Rattle.blocks_c.proofs.blocks_allocate.Tie as tie
 allocate-block-requires : tie.Need-allocate-block-requires
 allocate-block-requires c κs =
     let pre = c .before .before .before .before .before .before .before .before .before .pre in
-    (pre .0, record { fast = pre .1; slow = pre .2; rate = pre .3 }, memo-fresh _)
+    (pre .0, record { fast = pre .2; slow = pre .3; rate = pre .4 }, memo-fresh _ _ (pre .1))
 
 returns : tie.Need-returns
 returns c = rw (← c .before .before .before .sent-of .ensures) (c .allocate-block .ensures .0)

@@ -8,10 +8,10 @@ use Rattle.hybrid.proofs.active_in.Statement.{statement}
 use Rattle.hybrid.proofs.active_in.Tie as tie
 
 abbrev Inv-loop : tie.InvT-loop
-Inv-loop bins slot start end mode base n₀ i₀ n i = (n + start ≤ i) × (n ≤ 256) × (activeIn mode bins slot start (end - start) ≡ n + activeIn mode bins slot i (end - i))
+Inv-loop baps slot start end mode base n₀ i₀ n i = (n + start ≤ i) × (n ≤ 256) × (activeIn mode baps slot start (end - start) ≡ n + activeIn mode baps slot i (end - i))
 
 abbrev μ-loop : tie.MeasureT-loop
-μ-loop bins slot start end mode base n₀ i₀ n i = end - i
+μ-loop baps slot start end mode base n₀ i₀ n i = end - i
 
 loop-holds : tie.Need-loop-holds Inv-loop μ-loop
 loop-holds c = (omega arith, omega arith, active-none _ _ _ _ _)
@@ -27,6 +27,6 @@ returns c = (active-end _ _ _ (c .before .before .args .start) _ _ _ _ (c .befor
 
 pub active-in-spec : {M : Type 1} → statement M
 active-in-spec =
-    tie.close (tie.spec Inv-loop μ-loop (λ c. search needs) (λ c. search needs) loop-holds (λ c. search needs)
+    tie.close (tie.spec Inv-loop μ-loop (λ c. search needs) loop-holds (λ c. search needs)
     (λ c. search needs) (λ c. search needs) (λ c κs. search needs) counted-requires (λ c. search needs)
     (λ c. search needs) loop-again returns)

@@ -11,10 +11,10 @@ use Rattle.hybrid.proofs.read_bins.Statement.{statement}
 use Rattle.hybrid.proofs.read_bins.Tie as tie
 
 abbrev Inv-loop : tie.InvT-loop
-Inv-loop src bins slot start end mode gain at limit base p₀ k₀ tags₀ i₀ p k tags i = (k + start ≤ i) × (tags + 6 * start ≤ 6 * i) × (tags ≤ 1536) × ((gains : List ℕ) → Gained gain gains → skim (binsOf mode gains bins slot start (end - start) 0 0) src at limit ≡ skim (binsOf mode gains bins slot i (end - i) k tags) src p limit)
+Inv-loop src baps slot start end mode gain at limit base p₀ k₀ tags₀ i₀ p k tags i = (k + start ≤ i) × (tags + 6 * start ≤ 6 * i) × (tags ≤ 1536) × ((gains : List ℕ) → Gained gain gains → skim (binsOf mode gains baps slot start (end - start) 0 0) src at limit ≡ skim (binsOf mode gains baps slot i (end - i) k tags) src p limit)
 
 abbrev μ-loop : tie.MeasureT-loop
-μ-loop src bins slot start end mode gain at limit base p₀ k₀ tags₀ i₀ p k tags i = end - i
+μ-loop src baps slot start end mode gain at limit base p₀ k₀ tags₀ i₀ p k tags i = end - i
 
 loop-holds : tie.Need-loop-holds Inv-loop μ-loop
 loop-holds c = (omega arith, omega arith, omega arith, λ gains w. refl)
@@ -39,6 +39,6 @@ returns-2 c = (λ gains w. bins-end _ _ _ gains _ _ _ _ _ _ _ (c .loop-test .lef
 
 pub read-bins-spec : {M : Type 1} → statement M
 read-bins-spec =
-    tie.close (tie.spec Inv-loop μ-loop (λ c. search needs) (λ c. search needs) loop-holds (λ c. search needs)
+    tie.close (tie.spec Inv-loop μ-loop (λ c. search needs) loop-holds (λ c. search needs)
     (λ c. search needs) (λ c. search needs) (λ c κs. search needs) gain-at-requires (λ c κs. search needs) returns
     add-tags counted-requires (λ c. search needs) (λ c. search needs) loop-again returns-2)

@@ -10,10 +10,10 @@ use Rattle.mantissas.proofs.one_by_one.Statement.{statement}
 use Rattle.mantissas.proofs.one_by_one.Tie as tie
 
 abbrev Inv-loop : tie.InvT-loop
-Inv-loop bins slot start end base last p₀ q₀ i₀ p q i = (s : List ℕ) → skim (conventionalOf bins slot start (end - start) q₀) s p₀ last ≡ skim (conventionalOf bins slot i (end - i) q) s p last
+Inv-loop baps slot start end base last p₀ q₀ i₀ p q i = (s : List ℕ) → skim (conventionalOf baps slot start (end - start) q₀) s p₀ last ≡ skim (conventionalOf baps slot i (end - i) q) s p last
 
 abbrev μ-loop : tie.MeasureT-loop
-μ-loop bins slot start end base last p₀ q₀ i₀ p q i = end - i
+μ-loop baps slot start end base last p₀ q₀ i₀ p q i = end - i
 
 loop-holds : tie.Need-loop-holds Inv-loop μ-loop
 loop-holds c = λ s. refl
@@ -32,6 +32,6 @@ returns-2 c = λ s. sym (c .before .loop .inv s ∙ conv-end s _ _ _ _ _ _ _ (c 
 
 pub one-by-one-spec : {M : Type 1} → statement M
 one-by-one-spec =
-    tie.close (tie.spec Inv-loop μ-loop (λ c. search needs) (λ c. search needs) loop-holds (λ c. search needs)
+    tie.close (tie.spec Inv-loop μ-loop (λ c. search needs) loop-holds (λ c. search needs)
     (λ c. search needs) (λ c. search needs) (λ c κs. search needs) (λ c κs. search needs) returns add-p
     (λ c κs. search needs) (λ c. search needs) (λ c. search needs) loop-again returns-2)

@@ -4,7 +4,8 @@ use Rattle.reading.specs.Room.{room}
 use Rattle.syntax.specs.declared.Cursor.{Cursor}
 use Rattle.syntax.proofs.Rooms.{same-trans}
 use Rattle.cells.specs.Cells.{state}
-use Rattle.walk.proofs.Walks.{EachInv, RowsInv, weigh, stand-end, stand-inside, stand-within, stand-ready, stand-opens, turns-start, turns-on, turns-off, turns-end, rows-start, rows-none, rows-one, one-off, more-fewer, gather-right, rows-gather, gather-off, rows-when, rows-deal, deal-off, loop-within, loop-stand, rows-each, each-off, weigh-next, weigh-skip, weigh-past, weigh-more, shorter}
+use Rattle.slots.specs.Held.{bins}
+use Rattle.walk.proofs.Walks.{EachInv, RowsInv, weigh, stand-end, stand-inside, stand-within, stand-ready, stand-opens, turns-start, turns-on, turns-off, turns-end, rows-start, rows-none, rows-one, one-off, more-fewer, rows-gather, gather-off, rows-when, rows-deal, deal-off, loop-within, loop-stand, rows-each, each-off, weigh-next, weigh-skip, weigh-past, weigh-more, shorter}
 use borrow.Author.Needs.{needs}
 use Prim.Native.Nat.{ℕ, _<_, _-_}
 use borrow.Fn.Kinds.{In}
@@ -28,29 +29,29 @@ use Rattle.syntax.proofs.halted.Reads as halted-reads
 use Rattle.walk.proofs.+each.{statement}
 use Rattle.walk.proofs.+each.Tie.{close}
 
-abbrev μ-each : Measures 11 each-kinds.ps ℕ
-μ-each κs a = a .1 .1 .1 .1 .1 .1 .1 .1 .1 .1 .1 .1 .1 .1 .1 .1 .0 - a .1 .1 .1 .1 .1 .1 .1 .1 .1 .1 .1 .1 .1 .1 .1 .0
+abbrev μ-each : Measures 12 each-kinds.ps ℕ
+μ-each κs a = a .1 .1 .1 .1 .1 .1 .1 .1 .1 .1 .1 .1 .1 .1 .1 .1 .1 .0 - a .1 .1 .1 .1 .1 .1 .1 .1 .1 .1 .1 .1 .1 .1 .1 .1 .0
 
-abbrev each-at : ℕ → In 11 each-kinds.ps
-each-at t = and 11 each-kinds.ps (is 11 each-kinds.ps μ-each t) each.Pre
+abbrev each-at : ℕ → In 12 each-kinds.ps
+each-at t = and 12 each-kinds.ps (is 12 each-kinds.ps μ-each t) each.Pre
 
-abbrev each-below : ℕ → In 11 each-kinds.ps
-each-below t = and 11 each-kinds.ps (falls 11 each-kinds.ps _<_ μ-each t) each.Pre
+abbrev each-below : ℕ → In 12 each-kinds.ps
+each-below t = and 12 each-kinds.ps (falls 12 each-kinds.ps _<_ μ-each t) each.Pre
 
 abbrev each-Inv-loop2 : each-lts.InvT-loop2
-each-Inv-loop2 table src names₀ blocks₀ indexes₀ firsts₀ widths₀ values₀ cells₀ bins₀ memo₀ start had limit most from to i n counter at₀ count₀ j pc₀ left₀ last₀ names blocks indexes firsts widths values cells bins memo at count pc left last =
-    RowsInv src limit table from to at₀ count₀ (state cells₀ bins₀) (room names₀ blocks₀ indexes₀ firsts₀ widths₀ values₀) at count (state cells bins) (room names blocks indexes firsts widths values) memo pc left last
+each-Inv-loop2 table src names₀ blocks₀ indexes₀ firsts₀ widths₀ values₀ cells₀ exps₀ baps₀ memo₀ start had limit most from to i n counter at₀ count₀ j pc₀ left₀ last₀ names blocks indexes firsts widths values cells exps baps memo at count pc left last =
+    RowsInv src limit table from to at₀ count₀ (state cells₀ (bins exps₀ baps₀)) (room names₀ blocks₀ indexes₀ firsts₀ widths₀ values₀) at count (state cells (bins exps baps)) (room names blocks indexes firsts widths values) memo pc left last
 
 abbrev each-μ-loop2 : each-lts.MeasureT-loop2
-each-μ-loop2 table src names₀ blocks₀ indexes₀ firsts₀ widths₀ values₀ cells₀ bins₀ memo₀ start had limit most from to i n counter at₀ count₀ j pc₀ left₀ last₀ names blocks indexes firsts widths values cells bins memo at count pc left last =
+each-μ-loop2 table src names₀ blocks₀ indexes₀ firsts₀ widths₀ values₀ cells₀ exps₀ baps₀ memo₀ start had limit most from to i n counter at₀ count₀ j pc₀ left₀ last₀ names blocks indexes firsts widths values cells exps baps memo at count pc left last =
     weigh to pc left
 
 abbrev each-Inv-loop : each-lts.InvT-loop
-each-Inv-loop table src names₀ blocks₀ indexes₀ firsts₀ widths₀ values₀ cells₀ bins₀ memo₀ start had limit most from to i n counter at₀ count₀ j₀ names blocks indexes firsts widths values cells bins memo at count j =
-    EachInv src limit table from to i n counter start had (state cells₀ bins₀) (room names₀ blocks₀ indexes₀ firsts₀ widths₀ values₀) at count (state cells bins) (room names blocks indexes firsts widths values) memo j
+each-Inv-loop table src names₀ blocks₀ indexes₀ firsts₀ widths₀ values₀ cells₀ exps₀ baps₀ memo₀ start had limit most from to i n counter at₀ count₀ j₀ names blocks indexes firsts widths values cells exps baps memo at count j =
+    EachInv src limit table from to i n counter start had (state cells₀ (bins exps₀ baps₀)) (room names₀ blocks₀ indexes₀ firsts₀ widths₀ values₀) at count (state cells (bins exps baps)) (room names blocks indexes firsts widths values) memo j
 
 abbrev each-μ-loop : each-lts.MeasureT-loop
-each-μ-loop table src names₀ blocks₀ indexes₀ firsts₀ widths₀ values₀ cells₀ bins₀ memo₀ start had limit most from to i n counter at₀ count₀ j₀ names blocks indexes firsts widths values cells bins memo at count j =
+each-μ-loop table src names₀ blocks₀ indexes₀ firsts₀ widths₀ values₀ cells₀ exps₀ baps₀ memo₀ start had limit most from to i n counter at₀ count₀ j₀ names blocks indexes firsts widths values cells exps baps memo at count j =
     n - j
 
 abbrev each-claims : ℕ → each-lts.Claims
@@ -117,37 +118,37 @@ each-loop2-again-2 : (t : ℕ) → each-lts.Need-loop2-again-2 (each-claims t) (
 each-loop2-again-2 t c = rows-one _ _ _ _ _ _ _ _ _ _ _ _ _ _ _ _ _ (c .before .before .before .before .before .before .before .before .before .before .before .before .before .before .before .before .before .before .before .before .before .before .before .before .before .before .before .before .before .loop2 .inv) (c .before .before .before .before .before .before .before .before .before .before .before .before .before .before .before .before .before .before .before .before .before .before .before .before .before .before .before .before .loop2-test .taken) _ refl (c .before .before .before .before .before .before .before .before .before .before .before .before .before .before .before .before .before .before .before .before .before .before .before .before .before .before .if1 .taken) _ _ (c .before .before .before .before .before .before .before .before .before .before .before .before .before .before .before .before .before .before .before .before .before .before .before .before .last-of .ensures) (c .before .before .before .before .before .before .before .before .before .before .before .before .before .before .before .before .before .before .before .before .before .before .before .more-of .ensures) (c .before .before .before .before .before .before .before .before .before .before .before .before .before .before .before .before .before .before .before .before .before .before .if2 .left) _ (c .before .before .before .before .before .before .before .before .before .before .before .before .before .before .before .before .before .before .before .before .mark .ensures) (c .before .before .before .before .before .before .before .before .before .before .before .before .take .result) _ _ (c .before .before .before .before .before .before .before .before .before .before .before .before .take .ensures) (c .before .if3 .left) (record { names = c .before .before .before .before .before .before .before .before .before .before .before .before .take .kept .1 .0; blocks = c .before .before .before .before .before .before .before .before .before .before .before .before .take .kept .1 .1 .0; indexes = c .before .before .before .before .before .before .before .before .before .before .before .before .take .kept .1 .1 .1 .0; firsts = c .before .before .before .before .before .before .before .before .before .before .before .before .take .kept .1 .1 .1 .1 .0; widths = c .before .before .before .before .before .before .before .before .before .before .before .before .take .kept .1 .1 .1 .1 .1 .0; values = c .before .before .before .before .before .before .before .before .before .before .before .before .take .kept .1 .1 .1 .1 .1 .1 .0 }) _ refl _ (c .onward .ensures)
 
 each-gather-requires : (t : ℕ) → each-lts.Need-gather-requires (each-claims t) (each-at t) each.Post each-Inv-loop2 each-μ-loop2 each-Inv-loop each-μ-loop
-each-gather-requires t c κs = stand-opens (c .before .before .before .before .before .before .before .before .before .before .before .before .before .before .before .before .before .before .before .before .before .before .before .pre .1) _ (same-trans (c .before .before .before .before .before .before .before .before .before .before .before .before .before .before .before .before .loop .inv .same) (c .before .before .before .before .before .before .before .before .before .before .before .before .loop2 .inv .same)) _ _ (c .before .before .before .before .before .before .before .before .before .before .before .before .loop2 .inv .right) _ (c .before .before .before .before .before .before .before .before .before .if1 .left)
+each-gather-requires t c κs = stand-opens (c .before .before .before .before .before .before .before .before .before .before .before .before .before .before .before .before .before .before .before .before .before .before .before .before .before .pre .1) _ (same-trans (c .before .before .before .before .before .before .before .before .before .before .before .before .before .before .before .before .before .before .loop .inv .same) (c .before .before .before .before .before .before .before .before .before .before .before .before .before .before .loop2 .inv .same)) _ _ (c .before .before .before .before .before .before .before .before .before .before .before .before .before .before .loop2 .inv .right) _ (c .before .before .before .before .before .before .before .before .before .before .before .if1 .left)
 
 each-same-length-7 : (t : ℕ) → each-lts.Need-same-length-7 (each-claims t) (each-at t) each.Post each-Inv-loop2 each-μ-loop2 each-Inv-loop each-μ-loop
-each-same-length-7 t c = c .before .before .before .before .before .before .before .before .before .before .before .gather .kept .1 .0 ∙ c .before .before .before .before .before .before .before .before .before .before .before .before .before .before .before .before .before .before .before .before .before .before .before .before .loop2 .inv .same .names ∙ c .before .before .before .before .before .before .before .before .before .before .before .before .before .before .before .before .before .before .before .before .before .before .before .before .before .before .before .before .loop .inv .same .names
+each-same-length-7 t c = c .before .before .before .before .before .before .before .before .before .before .before .gather .kept .1 .0 ∙ c .before .before .before .before .before .before .before .before .before .before .before .before .before .before .before .before .before .before .before .before .before .before .before .before .before .before .loop2 .inv .same .names ∙ c .before .before .before .before .before .before .before .before .before .before .before .before .before .before .before .before .before .before .before .before .before .before .before .before .before .before .before .before .before .before .loop .inv .same .names
 
 each-same-length-8 : (t : ℕ) → each-lts.Need-same-length-8 (each-claims t) (each-at t) each.Post each-Inv-loop2 each-μ-loop2 each-Inv-loop each-μ-loop
-each-same-length-8 t c = c .before .before .before .before .before .before .before .before .before .before .before .gather .kept .1 .1 .0 ∙ c .before .before .before .before .before .before .before .before .before .before .before .before .before .before .before .before .before .before .before .before .before .before .before .before .loop2 .inv .same .blocks ∙ c .before .before .before .before .before .before .before .before .before .before .before .before .before .before .before .before .before .before .before .before .before .before .before .before .before .before .before .before .loop .inv .same .blocks
+each-same-length-8 t c = c .before .before .before .before .before .before .before .before .before .before .before .gather .kept .1 .1 .0 ∙ c .before .before .before .before .before .before .before .before .before .before .before .before .before .before .before .before .before .before .before .before .before .before .before .before .before .before .loop2 .inv .same .blocks ∙ c .before .before .before .before .before .before .before .before .before .before .before .before .before .before .before .before .before .before .before .before .before .before .before .before .before .before .before .before .before .before .loop .inv .same .blocks
 
 each-same-length-9 : (t : ℕ) → each-lts.Need-same-length-9 (each-claims t) (each-at t) each.Post each-Inv-loop2 each-μ-loop2 each-Inv-loop each-μ-loop
-each-same-length-9 t c = c .before .before .before .before .before .before .before .before .before .before .before .gather .kept .1 .1 .1 .0 ∙ c .before .before .before .before .before .before .before .before .before .before .before .before .before .before .before .before .before .before .before .before .before .before .before .before .loop2 .inv .same .indexes ∙ c .before .before .before .before .before .before .before .before .before .before .before .before .before .before .before .before .before .before .before .before .before .before .before .before .before .before .before .before .loop .inv .same .indexes
+each-same-length-9 t c = c .before .before .before .before .before .before .before .before .before .before .before .gather .kept .1 .1 .1 .0 ∙ c .before .before .before .before .before .before .before .before .before .before .before .before .before .before .before .before .before .before .before .before .before .before .before .before .before .before .loop2 .inv .same .indexes ∙ c .before .before .before .before .before .before .before .before .before .before .before .before .before .before .before .before .before .before .before .before .before .before .before .before .before .before .before .before .before .before .loop .inv .same .indexes
 
 each-same-length-10 : (t : ℕ) → each-lts.Need-same-length-10 (each-claims t) (each-at t) each.Post each-Inv-loop2 each-μ-loop2 each-Inv-loop each-μ-loop
-each-same-length-10 t c = c .before .before .before .before .before .before .before .before .before .before .before .gather .kept .1 .1 .1 .1 .0 ∙ c .before .before .before .before .before .before .before .before .before .before .before .before .before .before .before .before .before .before .before .before .before .before .before .before .loop2 .inv .same .firsts ∙ c .before .before .before .before .before .before .before .before .before .before .before .before .before .before .before .before .before .before .before .before .before .before .before .before .before .before .before .before .loop .inv .same .firsts
+each-same-length-10 t c = c .before .before .before .before .before .before .before .before .before .before .before .gather .kept .1 .1 .1 .1 .0 ∙ c .before .before .before .before .before .before .before .before .before .before .before .before .before .before .before .before .before .before .before .before .before .before .before .before .before .before .loop2 .inv .same .firsts ∙ c .before .before .before .before .before .before .before .before .before .before .before .before .before .before .before .before .before .before .before .before .before .before .before .before .before .before .before .before .before .before .loop .inv .same .firsts
 
 each-same-length-11 : (t : ℕ) → each-lts.Need-same-length-11 (each-claims t) (each-at t) each.Post each-Inv-loop2 each-μ-loop2 each-Inv-loop each-μ-loop
-each-same-length-11 t c = c .before .before .before .before .before .before .before .before .before .before .before .gather .kept .1 .1 .1 .1 .1 .0 ∙ c .before .before .before .before .before .before .before .before .before .before .before .before .before .before .before .before .before .before .before .before .before .before .before .before .loop2 .inv .same .widths ∙ c .before .before .before .before .before .before .before .before .before .before .before .before .before .before .before .before .before .before .before .before .before .before .before .before .before .before .before .before .loop .inv .same .widths
+each-same-length-11 t c = c .before .before .before .before .before .before .before .before .before .before .before .gather .kept .1 .1 .1 .1 .1 .0 ∙ c .before .before .before .before .before .before .before .before .before .before .before .before .before .before .before .before .before .before .before .before .before .before .before .before .before .before .loop2 .inv .same .widths ∙ c .before .before .before .before .before .before .before .before .before .before .before .before .before .before .before .before .before .before .before .before .before .before .before .before .before .before .before .before .before .before .loop .inv .same .widths
 
 each-same-length-12 : (t : ℕ) → each-lts.Need-same-length-12 (each-claims t) (each-at t) each.Post each-Inv-loop2 each-μ-loop2 each-Inv-loop each-μ-loop
-each-same-length-12 t c = c .before .before .before .before .before .before .before .before .before .before .before .gather .kept .1 .1 .1 .1 .1 .1 .0 ∙ c .before .before .before .before .before .before .before .before .before .before .before .before .before .before .before .before .before .before .before .before .before .before .before .before .loop2 .inv .same .values ∙ c .before .before .before .before .before .before .before .before .before .before .before .before .before .before .before .before .before .before .before .before .before .before .before .before .before .before .before .before .loop .inv .same .values
+each-same-length-12 t c = c .before .before .before .before .before .before .before .before .before .before .before .gather .kept .1 .1 .1 .1 .1 .1 .0 ∙ c .before .before .before .before .before .before .before .before .before .before .before .before .before .before .before .before .before .before .before .before .before .before .before .before .before .before .loop2 .inv .same .values ∙ c .before .before .before .before .before .before .before .before .before .before .before .before .before .before .before .before .before .before .before .before .before .before .before .before .before .before .before .before .before .before .loop .inv .same .values
 
 each-returns-2 : (t : ℕ) → each-lts.Need-returns-2 (each-claims t) (each-at t) each.Post each-Inv-loop2 each-μ-loop2 each-Inv-loop each-μ-loop
-each-returns-2 t c = turns-off _ _ _ _ _ _ _ _ _ _ _ _ _ _ _ _ _ _ (c .before .before .before .before .before .before .before .before .before .before .before .before .before .before .before .before .before .before .before .before .before .before .before .before .before .before .before .before .loop .inv) (c .before .before .before .before .before .before .before .before .before .before .before .before .before .before .before .before .before .before .before .before .before .before .before .before .before .before .before .loop-test .taken) _ (c .before .before .before .before .before .before .before .before .before .before .before .before .before .before .before .before .before .before .before .before .before .before .before .before .before .put .ensures) (c .before .before .before .before .before .before .before .before .before .before .before .gather .result) _ _ _ (c .if5 .taken) (gather-right _ _ _ _ _ _ _ _ _ _ _ _ _ _ _ _ _ (c .before .before .before .before .before .before .before .before .before .before .before .before .before .before .before .before .before .before .before .before .before .before .before .before .loop2 .inv) (c .before .before .before .before .before .before .before .before .before .before .before .before .before .before .before .before .before .before .before .before .before .before .before .loop2-test .taken) _ refl (c .before .before .before .before .before .before .before .before .before .before .before .before .before .before .before .before .before .before .before .before .before .if1 .left) (c .before .before .before .before .before .before .before .before .before .before .before .before .before .before .before .before .before .before .before .before .if4 .taken) (c .before .before .before .before .before .before .before .before .before .before .before .gather .result) _ _ (c .before .before .before .before .before .before .before .before .before .before .before .gather .ensures)) (gather-off _ _ _ _ _ _ _ _ _ _ _ _ _ _ _ _ _ (c .before .before .before .before .before .before .before .before .before .before .before .before .before .before .before .before .before .before .before .before .before .before .before .before .loop2 .inv) (c .before .before .before .before .before .before .before .before .before .before .before .before .before .before .before .before .before .before .before .before .before .before .before .loop2-test .taken) _ refl (c .before .before .before .before .before .before .before .before .before .before .before .before .before .before .before .before .before .before .before .before .before .if1 .left) (c .before .before .before .before .before .before .before .before .before .before .before .before .before .before .before .before .before .before .before .before .if4 .taken) (c .before .before .before .before .before .before .before .before .before .before .before .gather .result) _ _ (c .before .before .before .before .before .before .before .before .before .before .before .gather .ensures) (c .if5 .taken))
+each-returns-2 t c = turns-off _ _ _ _ _ _ _ _ _ _ _ _ _ _ _ _ _ _ (c .before .before .before .before .before .before .before .before .before .before .before .before .before .before .before .before .before .before .before .before .before .before .before .before .before .before .before .before .before .before .loop .inv) (c .before .before .before .before .before .before .before .before .before .before .before .before .before .before .before .before .before .before .before .before .before .before .before .before .before .before .before .before .before .loop-test .taken) _ (c .before .before .before .before .before .before .before .before .before .before .before .before .before .before .before .before .before .before .before .before .before .before .before .before .before .before .before .put .ensures) (c .before .before .before .before .before .before .before .before .before .before .before .gather .result) _ _ _ (c .if5 .taken) (c .before .before .before .before .before .before .before .before .before .before .before .gather .ensures .right) (gather-off _ _ _ _ _ _ _ _ _ _ _ _ _ _ _ _ _ (c .before .before .before .before .before .before .before .before .before .before .before .before .before .before .before .before .before .before .before .before .before .before .before .before .before .before .loop2 .inv) (c .before .before .before .before .before .before .before .before .before .before .before .before .before .before .before .before .before .before .before .before .before .before .before .before .before .loop2-test .taken) _ refl (c .before .before .before .before .before .before .before .before .before .before .before .before .before .before .before .before .before .before .before .before .before .before .before .if1 .left) (c .before .before .before .before .before .before .before .before .before .before .before .before .before .before .before .before .before .before .before .before .before .before .if4 .taken) (c .before .before .before .before .before .before .before .before .before .before .before .gather .result) _ _ _ (c .before .before .before .before .before .before .before .before .before .before .before .gather .ensures) (c .if5 .taken))
 
 each-add-pc-2 : (t : ℕ) → each-lts.Need-add-pc-2 (each-claims t) (each-at t) each.Post each-Inv-loop2 each-μ-loop2 each-Inv-loop each-μ-loop
-each-add-pc-2 t c = omega (arith, stand-end (c .before .before .before .before .before .before .before .before .before .before .before .before .before .before .before .before .before .before .before .before .before .before .before .before .before .before .before .before .before .before .before .before .before .before .before .pre .1), c .before .before .before .before .before .before .before .before .before .before .before .before .before .before .before .before .before .before .before .before .before .before .before .loop2-test .taken)
+each-add-pc-2 t c = omega (arith, stand-end (c .before .before .before .before .before .before .before .before .before .before .before .before .before .before .before .before .before .before .before .before .before .before .before .before .before .before .before .before .before .before .before .before .before .before .before .before .before .pre .1), c .before .before .before .before .before .before .before .before .before .before .before .before .before .before .before .before .before .before .before .before .before .before .before .before .before .loop2-test .taken)
 
 each-loop2-less-3 : (t : ℕ) → each-lts.Need-loop2-less-3 (each-claims t) (each-at t) each.Post each-Inv-loop2 each-μ-loop2 each-Inv-loop each-μ-loop
-each-loop2-less-3 t c = weigh-next _ _ _ (c .before .before .before .before .before .before .before .before .before .before .before .before .before .before .before .before .before .before .before .before .before .before .before .loop2-test .taken)
+each-loop2-less-3 t c = weigh-next _ _ _ (c .before .before .before .before .before .before .before .before .before .before .before .before .before .before .before .before .before .before .before .before .before .before .before .before .before .loop2-test .taken)
 
 each-loop2-again-3 : (t : ℕ) → each-lts.Need-loop2-again-3 (each-claims t) (each-at t) each.Post each-Inv-loop2 each-μ-loop2 each-Inv-loop each-μ-loop
-each-loop2-again-3 t c = rows-gather _ _ _ _ _ _ _ _ _ _ _ _ _ _ _ _ _ (c .before .before .before .before .before .before .before .before .before .before .before .before .before .before .before .before .before .before .before .before .before .before .before .before .loop2 .inv) (c .before .before .before .before .before .before .before .before .before .before .before .before .before .before .before .before .before .before .before .before .before .before .before .loop2-test .taken) _ refl (c .before .before .before .before .before .before .before .before .before .before .before .before .before .before .before .before .before .before .before .before .before .if1 .left) (c .before .before .before .before .before .before .before .before .before .before .before .before .before .before .before .before .before .before .before .before .if4 .taken) (c .before .before .before .before .before .before .before .before .before .before .before .gather .result) _ _ (c .before .before .before .before .before .before .before .before .before .before .before .gather .ensures) (c .if5 .left) (record { names = c .before .before .before .before .before .before .before .before .before .before .before .gather .kept .1 .0; blocks = c .before .before .before .before .before .before .before .before .before .before .before .gather .kept .1 .1 .0; indexes = c .before .before .before .before .before .before .before .before .before .before .before .gather .kept .1 .1 .1 .0; firsts = c .before .before .before .before .before .before .before .before .before .before .before .gather .kept .1 .1 .1 .1 .0; widths = c .before .before .before .before .before .before .before .before .before .before .before .gather .kept .1 .1 .1 .1 .1 .0; values = c .before .before .before .before .before .before .before .before .before .before .before .gather .kept .1 .1 .1 .1 .1 .1 .0 })
+each-loop2-again-3 t c = rows-gather _ _ _ _ _ _ _ _ _ _ _ _ _ _ _ _ _ (c .before .before .before .before .before .before .before .before .before .before .before .before .before .before .before .before .before .before .before .before .before .before .before .before .before .before .loop2 .inv) (c .before .before .before .before .before .before .before .before .before .before .before .before .before .before .before .before .before .before .before .before .before .before .before .before .before .loop2-test .taken) _ refl (c .before .before .before .before .before .before .before .before .before .before .before .before .before .before .before .before .before .before .before .before .before .before .before .if1 .left) (c .before .before .before .before .before .before .before .before .before .before .before .before .before .before .before .before .before .before .before .before .before .before .if4 .taken) (c .before .before .before .before .before .before .before .before .before .before .before .gather .result) _ _ _ (c .before .before .before .before .before .before .before .before .before .before .before .gather .ensures) (c .if5 .left) (record { names = c .before .before .before .before .before .before .before .before .before .before .before .gather .kept .1 .0; blocks = c .before .before .before .before .before .before .before .before .before .before .before .gather .kept .1 .1 .0; indexes = c .before .before .before .before .before .before .before .before .before .before .before .gather .kept .1 .1 .1 .0; firsts = c .before .before .before .before .before .before .before .before .before .before .before .gather .kept .1 .1 .1 .1 .0; widths = c .before .before .before .before .before .before .before .before .before .before .before .gather .kept .1 .1 .1 .1 .1 .0; values = c .before .before .before .before .before .before .before .before .before .before .before .gather .kept .1 .1 .1 .1 .1 .1 .0 })
 
 each-add-pc-3 : (t : ℕ) → each-lts.Need-add-pc-3 (each-claims t) (each-at t) each.Post each-Inv-loop2 each-μ-loop2 each-Inv-loop each-μ-loop
 each-add-pc-3 t c = omega (arith, c .skip .ensures .1)
@@ -162,37 +163,37 @@ each-loop2-again-4 : (t : ℕ) → each-lts.Need-loop2-again-4 (each-claims t) (
 each-loop2-again-4 t c = rows-when _ _ _ _ _ _ _ _ _ _ _ _ _ _ _ _ _ (c .before .before .before .before .before .before .before .loop2 .inv) (c .before .before .before .before .before .before .loop2-test .taken) _ refl (c .before .before .before .before .if1 .left) (c .before .before .before .if4 .left) (c .before .before .if6 .taken) _ (c .skip .ensures .0) _ (c .before .before .before .before .before .before .before .before .before .before .before .before .before .before .before .before .before .before .pre .1 .stands)
 
 each-deal-requires : (t : ℕ) → each-lts.Need-deal-requires (each-claims t) (each-at t) each.Post each-Inv-loop2 each-μ-loop2 each-Inv-loop each-μ-loop
-each-deal-requires t c κs = (c .before .before .before .before .before .before .before .before .before .loop2 .inv .right .held, c .before .before .before .before .before .before .before .before .before .loop2 .inv .right .memo, c .before .before .before .before .if6 .left, c .before .before .before .if7 .taken)
+each-deal-requires t c κs = (c .before .before .before .before .before .before .before .before .before .before .loop2 .inv .right .held, c .before .before .before .before .before .before .before .before .before .before .loop2 .inv .right .memo, c .before .before .before .before .before .if6 .left, c .before .before .before .before .if7 .taken)
 
 each-same-length-13 : (t : ℕ) → each-lts.Need-same-length-13 (each-claims t) (each-at t) each.Post each-Inv-loop2 each-μ-loop2 each-Inv-loop each-μ-loop
-each-same-length-13 t c = c .before .before .before .before .before .before .before .before .before .before .before .before .before .before .loop2 .inv .same .names ∙ c .before .before .before .before .before .before .before .before .before .before .before .before .before .before .before .before .before .before .loop .inv .same .names
+each-same-length-13 t c = c .before .before .before .before .before .before .before .before .before .before .before .before .before .before .before .loop2 .inv .same .names ∙ c .before .before .before .before .before .before .before .before .before .before .before .before .before .before .before .before .before .before .before .loop .inv .same .names
 
 each-same-length-14 : (t : ℕ) → each-lts.Need-same-length-14 (each-claims t) (each-at t) each.Post each-Inv-loop2 each-μ-loop2 each-Inv-loop each-μ-loop
-each-same-length-14 t c = c .before .before .before .before .before .before .before .before .before .before .before .before .before .before .loop2 .inv .same .blocks ∙ c .before .before .before .before .before .before .before .before .before .before .before .before .before .before .before .before .before .before .loop .inv .same .blocks
+each-same-length-14 t c = c .before .before .before .before .before .before .before .before .before .before .before .before .before .before .before .loop2 .inv .same .blocks ∙ c .before .before .before .before .before .before .before .before .before .before .before .before .before .before .before .before .before .before .before .loop .inv .same .blocks
 
 each-same-length-15 : (t : ℕ) → each-lts.Need-same-length-15 (each-claims t) (each-at t) each.Post each-Inv-loop2 each-μ-loop2 each-Inv-loop each-μ-loop
-each-same-length-15 t c = c .before .before .before .before .before .before .before .before .before .before .before .before .before .before .loop2 .inv .same .indexes ∙ c .before .before .before .before .before .before .before .before .before .before .before .before .before .before .before .before .before .before .loop .inv .same .indexes
+each-same-length-15 t c = c .before .before .before .before .before .before .before .before .before .before .before .before .before .before .before .loop2 .inv .same .indexes ∙ c .before .before .before .before .before .before .before .before .before .before .before .before .before .before .before .before .before .before .before .loop .inv .same .indexes
 
 each-same-length-16 : (t : ℕ) → each-lts.Need-same-length-16 (each-claims t) (each-at t) each.Post each-Inv-loop2 each-μ-loop2 each-Inv-loop each-μ-loop
-each-same-length-16 t c = c .before .before .before .before .before .before .before .before .before .before .before .before .before .before .loop2 .inv .same .firsts ∙ c .before .before .before .before .before .before .before .before .before .before .before .before .before .before .before .before .before .before .loop .inv .same .firsts
+each-same-length-16 t c = c .before .before .before .before .before .before .before .before .before .before .before .before .before .before .before .loop2 .inv .same .firsts ∙ c .before .before .before .before .before .before .before .before .before .before .before .before .before .before .before .before .before .before .before .loop .inv .same .firsts
 
 each-same-length-17 : (t : ℕ) → each-lts.Need-same-length-17 (each-claims t) (each-at t) each.Post each-Inv-loop2 each-μ-loop2 each-Inv-loop each-μ-loop
-each-same-length-17 t c = c .before .before .before .before .before .before .before .before .before .before .before .before .before .before .loop2 .inv .same .widths ∙ c .before .before .before .before .before .before .before .before .before .before .before .before .before .before .before .before .before .before .loop .inv .same .widths
+each-same-length-17 t c = c .before .before .before .before .before .before .before .before .before .before .before .before .before .before .before .loop2 .inv .same .widths ∙ c .before .before .before .before .before .before .before .before .before .before .before .before .before .before .before .before .before .before .before .loop .inv .same .widths
 
 each-same-length-18 : (t : ℕ) → each-lts.Need-same-length-18 (each-claims t) (each-at t) each.Post each-Inv-loop2 each-μ-loop2 each-Inv-loop each-μ-loop
-each-same-length-18 t c = c .before .before .before .before .before .before .before .before .before .before .before .before .before .before .loop2 .inv .same .values ∙ c .before .before .before .before .before .before .before .before .before .before .before .before .before .before .before .before .before .before .loop .inv .same .values
+each-same-length-18 t c = c .before .before .before .before .before .before .before .before .before .before .before .before .before .before .before .loop2 .inv .same .values ∙ c .before .before .before .before .before .before .before .before .before .before .before .before .before .before .before .before .before .before .before .loop .inv .same .values
 
 each-returns-3 : (t : ℕ) → each-lts.Need-returns-3 (each-claims t) (each-at t) each.Post each-Inv-loop2 each-μ-loop2 each-Inv-loop each-μ-loop
-each-returns-3 t c = turns-off _ _ _ _ _ _ _ _ _ _ _ _ _ _ _ _ _ _ (c .before .before .before .before .before .before .before .before .before .before .before .before .before .before .before .before .before .before .loop .inv) (c .before .before .before .before .before .before .before .before .before .before .before .before .before .before .before .before .before .loop-test .taken) _ (c .before .before .before .before .before .before .before .before .before .before .before .before .before .before .before .put .ensures) (c .halted .result) _ _ _ (ap (λ (d : Cursor). d .stopped) (c .halted .ensures)) (record { held = c .before .before .before .before .deal .ensures .1; memo = c .before .before .before .before .deal .ensures .2 }) (deal-off _ _ _ _ _ _ _ _ _ _ _ _ _ _ _ _ _ (c .before .before .before .before .before .before .before .before .before .before .before .before .before .before .loop2 .inv) (c .before .before .before .before .before .before .before .before .before .before .before .before .before .loop2-test .taken) _ refl (c .before .before .before .before .before .before .before .before .before .before .before .if1 .left) _ _ _ (c .before .before .before .before .deal .ensures .0) (record { held = c .before .before .before .before .deal .ensures .1; memo = c .before .before .before .before .deal .ensures .2 }) (c .before .before .before .if8 .taken) _ (c .before .stop-at .ensures) (c .halted .result) (c .halted .ensures))
+each-returns-3 t c = turns-off _ _ _ _ _ _ _ _ _ _ _ _ _ _ _ _ _ _ (c .before .before .before .before .before .before .before .before .before .before .before .before .before .before .before .before .before .before .before .loop .inv) (c .before .before .before .before .before .before .before .before .before .before .before .before .before .before .before .before .before .before .loop-test .taken) _ (c .before .before .before .before .before .before .before .before .before .before .before .before .before .before .before .before .put .ensures) (c .halted .result) _ _ _ (ap (λ (d : Cursor). d .stopped) (c .halted .ensures)) (record { held = c .before .before .before .before .before .before .before .before .before .before .before .before .before .before .before .loop2 .inv .right .held; memo = c .before .before .before .before .deal .ensures .1 }) (deal-off _ _ _ _ _ _ _ _ _ _ _ _ _ _ _ _ _ (c .before .before .before .before .before .before .before .before .before .before .before .before .before .before .before .loop2 .inv) (c .before .before .before .before .before .before .before .before .before .before .before .before .before .before .loop2-test .taken) _ refl (c .before .before .before .before .before .before .before .before .before .before .before .before .if1 .left) _ _ _ (c .before .before .before .before .deal .ensures .0) (record { held = c .before .before .before .before .before .before .before .before .before .before .before .before .before .before .before .loop2 .inv .right .held; memo = c .before .before .before .before .deal .ensures .1 }) (c .before .before .before .if8 .taken) _ (c .before .stop-at .ensures) (c .halted .result) (c .halted .ensures))
 
 each-add-pc-5 : (t : ℕ) → each-lts.Need-add-pc-5 (each-claims t) (each-at t) each.Post each-Inv-loop2 each-μ-loop2 each-Inv-loop each-μ-loop
-each-add-pc-5 t c = omega (arith, stand-end (c .before .before .before .before .before .before .before .before .before .before .before .before .before .before .before .before .before .before .before .before .before .before .pre .1), c .before .before .before .before .before .before .before .before .before .before .loop2-test .taken)
+each-add-pc-5 t c = omega (arith, stand-end (c .before .before .before .before .before .before .before .before .before .before .before .before .before .before .before .before .before .before .before .before .before .before .before .pre .1), c .before .before .before .before .before .before .before .before .before .before .before .loop2-test .taken)
 
 each-loop2-less-5 : (t : ℕ) → each-lts.Need-loop2-less-5 (each-claims t) (each-at t) each.Post each-Inv-loop2 each-μ-loop2 each-Inv-loop each-μ-loop
-each-loop2-less-5 t c = weigh-next _ _ _ (c .before .before .before .before .before .before .before .before .before .before .loop2-test .taken)
+each-loop2-less-5 t c = weigh-next _ _ _ (c .before .before .before .before .before .before .before .before .before .before .before .loop2-test .taken)
 
 each-loop2-again-5 : (t : ℕ) → each-lts.Need-loop2-again-5 (each-claims t) (each-at t) each.Post each-Inv-loop2 each-μ-loop2 each-Inv-loop each-μ-loop
-each-loop2-again-5 t c = rows-deal _ _ _ _ _ _ _ _ _ _ _ _ _ _ _ _ _ (c .before .before .before .before .before .before .before .before .before .before .before .loop2 .inv) (c .before .before .before .before .before .before .before .before .before .before .loop2-test .taken) _ refl (c .before .before .before .before .before .before .before .before .if1 .left) _ _ _ (c .before .deal .ensures .0) (record { held = c .before .deal .ensures .1; memo = c .before .deal .ensures .2 }) (c .if8 .left)
+each-loop2-again-5 t c = rows-deal _ _ _ _ _ _ _ _ _ _ _ _ _ _ _ _ _ (c .before .before .before .before .before .before .before .before .before .before .before .before .loop2 .inv) (c .before .before .before .before .before .before .before .before .before .before .before .loop2-test .taken) _ refl (c .before .before .before .before .before .before .before .before .before .if1 .left) _ _ _ (c .before .deal .ensures .0) (record { held = c .before .before .before .before .before .before .before .before .before .before .before .before .loop2 .inv .right .held; memo = c .before .deal .ensures .1 }) (c .if8 .left)
 
 each-add-end : (t : ℕ) → each-lts.Need-add-end (each-claims t) (each-at t) each.Post each-Inv-loop2 each-μ-loop2 each-Inv-loop each-μ-loop
 each-add-end t c = omega (arith, stand-end (c .before .before .before .before .before .before .before .before .before .before .before .before .before .before .before .before .before .before .before .pre .1), c .before .before .before .before .before .before .before .loop2-test .taken)
@@ -201,37 +202,37 @@ each-add-end-2 : (t : ℕ) → each-lts.Need-add-end-2 (each-claims t) (each-at 
 each-add-end-2 t c = omega (arith, stand-end (c .before .before .before .before .before .before .before .before .before .before .before .before .before .before .before .before .before .before .before .before .pre .1), c .before .before .before .before .before .before .before .before .loop2-test .taken, c .before .loop-of .ensures .1)
 
 each-add-each : (t : ℕ) → each-lts.Need-add-each (each-claims t) (each-at t) each.Post each-Inv-loop2 each-μ-loop2 each-Inv-loop each-μ-loop
-each-add-each t c = omega (arith, stand-end (c .before .before .before .before .before .before .before .before .before .before .before .before .before .before .before .before .before .before .before .before .before .before .before .before .before .before .before .before .before .pre .1), c .before .before .before .before .before .before .before .before .before .before .before .before .before .before .before .before .before .loop2-test .taken)
+each-add-each t c = omega (arith, stand-end (c .before .before .before .before .before .before .before .before .before .before .before .before .before .before .before .before .before .before .before .before .before .before .before .before .before .before .before .before .before .before .pre .1), c .before .before .before .before .before .before .before .before .before .before .before .before .before .before .before .before .before .before .loop2-test .taken)
 
 each-each-requires : (t : ℕ) → each-lts.Need-each-requires (each-claims t) (each-at t) each.Post each-Inv-loop2 each-μ-loop2 each-Inv-loop each-μ-loop
-each-each-requires t c κs = (shorter _ _ _ _ (c .before .before .before .before .before .before .before .before .before .before .loop-of .result .rows) (c .before .before .before .before .before .before .before .before .before .before .before .before .before .before .before .before .before .before .before .before .before .before .before .before .before .before .before .before .before .pre .0) (c .before .before .before .before .before .before .before .before .before .before .before .before .before .before .before .before .before .before .loop2 .inv .past) (loop-within _ _ _ _ _ _ _ _ _ _ _ _ _ _ _ _ _ (c .before .before .before .before .before .before .before .before .before .before .before .before .before .before .before .before .before .before .loop2 .inv) (c .before .before .before .before .before .before .before .before .before .before .before .before .before .before .before .before .before .loop2-test .taken) _ refl (c .before .before .before .before .before .before .before .before .before .before .before .before .before .before .before .if1 .left) (c .before .before .before .before .before .before .before .before .before .before .before .before .before .before .if4 .left) (c .before .before .before .before .before .before .before .before .before .before .before .before .if7 .left) (c .before .before .before .before .before .before .before .before .before .before .loop-of .result) (c .before .before .before .before .before .before .before .before .before .before .loop-of .ensures .0) _ (c .before .before .before .before .before .before .before .before .before .before .before .before .before .before .before .before .before .before .before .before .before .before .before .before .before .before .before .before .before .pre .1 .stands)), loop-stand _ _ _ _ _ _ _ _ _ _ _ _ _ _ _ _ _ (c .before .before .before .before .before .before .before .before .before .before .before .before .before .before .before .before .before .before .loop2 .inv) (c .before .before .before .before .before .before .before .before .before .before .before .before .before .before .before .before .before .loop2-test .taken) _ refl (c .before .before .before .before .before .before .before .before .before .before .before .before .before .before .before .if1 .left) (c .before .before .before .before .before .before .before .before .before .before .before .before .before .before .if4 .left) (c .before .before .before .before .before .before .before .before .before .before .before .before .if7 .left) (c .before .before .before .before .before .before .before .before .before .before .loop-of .result) (c .before .before .before .before .before .before .before .before .before .before .loop-of .ensures .0) _ _ _ _ (c .before .before .before .before .before .before .before .before .before .before .before .before .before .before .before .before .before .before .before .before .before .before .before .before .before .before .before .before .before .pre .1) (same-trans (c .before .before .before .before .before .before .before .before .before .before .before .before .before .before .before .before .before .before .before .before .before .before .loop .inv .same) (c .before .before .before .before .before .before .before .before .before .before .before .before .before .before .before .before .before .before .loop2 .inv .same)))
+each-each-requires t c κs = (shorter _ _ _ _ (c .before .before .before .before .before .before .before .before .before .before .before .loop-of .result .rows) (c .before .before .before .before .before .before .before .before .before .before .before .before .before .before .before .before .before .before .before .before .before .before .before .before .before .before .before .before .before .before .pre .0) (c .before .before .before .before .before .before .before .before .before .before .before .before .before .before .before .before .before .before .before .loop2 .inv .past) (loop-within _ _ _ _ _ _ _ _ _ _ _ _ _ _ _ _ _ (c .before .before .before .before .before .before .before .before .before .before .before .before .before .before .before .before .before .before .before .loop2 .inv) (c .before .before .before .before .before .before .before .before .before .before .before .before .before .before .before .before .before .before .loop2-test .taken) _ refl (c .before .before .before .before .before .before .before .before .before .before .before .before .before .before .before .before .if1 .left) (c .before .before .before .before .before .before .before .before .before .before .before .before .before .before .before .if4 .left) (c .before .before .before .before .before .before .before .before .before .before .before .before .before .if7 .left) (c .before .before .before .before .before .before .before .before .before .before .before .loop-of .result) (c .before .before .before .before .before .before .before .before .before .before .before .loop-of .ensures .0) _ (c .before .before .before .before .before .before .before .before .before .before .before .before .before .before .before .before .before .before .before .before .before .before .before .before .before .before .before .before .before .before .pre .1 .stands)), loop-stand _ _ _ _ _ _ _ _ _ _ _ _ _ _ _ _ _ (c .before .before .before .before .before .before .before .before .before .before .before .before .before .before .before .before .before .before .before .loop2 .inv) (c .before .before .before .before .before .before .before .before .before .before .before .before .before .before .before .before .before .before .loop2-test .taken) _ refl (c .before .before .before .before .before .before .before .before .before .before .before .before .before .before .before .before .if1 .left) (c .before .before .before .before .before .before .before .before .before .before .before .before .before .before .before .if4 .left) (c .before .before .before .before .before .before .before .before .before .before .before .before .before .if7 .left) (c .before .before .before .before .before .before .before .before .before .before .before .loop-of .result) (c .before .before .before .before .before .before .before .before .before .before .before .loop-of .ensures .0) _ _ _ _ (c .before .before .before .before .before .before .before .before .before .before .before .before .before .before .before .before .before .before .before .before .before .before .before .before .before .before .before .before .before .before .pre .1) (same-trans (c .before .before .before .before .before .before .before .before .before .before .before .before .before .before .before .before .before .before .before .before .before .before .before .loop .inv .same) (c .before .before .before .before .before .before .before .before .before .before .before .before .before .before .before .before .before .before .before .loop2 .inv .same)))
 
 each-same-length-19 : (t : ℕ) → each-lts.Need-same-length-19 (each-claims t) (each-at t) each.Post each-Inv-loop2 each-μ-loop2 each-Inv-loop each-μ-loop
-each-same-length-19 t c = c .before .before .before .before .before .before .before .before .before .before .before .each .kept .1 .1 .0 ∙ c .before .before .before .before .before .before .before .before .before .before .before .before .before .before .before .before .before .before .before .before .before .before .before .before .before .before .before .before .before .before .loop2 .inv .same .names ∙ c .before .before .before .before .before .before .before .before .before .before .before .before .before .before .before .before .before .before .before .before .before .before .before .before .before .before .before .before .before .before .before .before .before .before .loop .inv .same .names
+each-same-length-19 t c = c .before .before .before .before .before .before .before .before .before .before .before .each .kept .1 .1 .0 ∙ c .before .before .before .before .before .before .before .before .before .before .before .before .before .before .before .before .before .before .before .before .before .before .before .before .before .before .before .before .before .before .before .loop2 .inv .same .names ∙ c .before .before .before .before .before .before .before .before .before .before .before .before .before .before .before .before .before .before .before .before .before .before .before .before .before .before .before .before .before .before .before .before .before .before .before .loop .inv .same .names
 
 each-same-length-20 : (t : ℕ) → each-lts.Need-same-length-20 (each-claims t) (each-at t) each.Post each-Inv-loop2 each-μ-loop2 each-Inv-loop each-μ-loop
-each-same-length-20 t c = c .before .before .before .before .before .before .before .before .before .before .before .each .kept .1 .1 .1 .0 ∙ c .before .before .before .before .before .before .before .before .before .before .before .before .before .before .before .before .before .before .before .before .before .before .before .before .before .before .before .before .before .before .loop2 .inv .same .blocks ∙ c .before .before .before .before .before .before .before .before .before .before .before .before .before .before .before .before .before .before .before .before .before .before .before .before .before .before .before .before .before .before .before .before .before .before .loop .inv .same .blocks
+each-same-length-20 t c = c .before .before .before .before .before .before .before .before .before .before .before .each .kept .1 .1 .1 .0 ∙ c .before .before .before .before .before .before .before .before .before .before .before .before .before .before .before .before .before .before .before .before .before .before .before .before .before .before .before .before .before .before .before .loop2 .inv .same .blocks ∙ c .before .before .before .before .before .before .before .before .before .before .before .before .before .before .before .before .before .before .before .before .before .before .before .before .before .before .before .before .before .before .before .before .before .before .before .loop .inv .same .blocks
 
 each-same-length-21 : (t : ℕ) → each-lts.Need-same-length-21 (each-claims t) (each-at t) each.Post each-Inv-loop2 each-μ-loop2 each-Inv-loop each-μ-loop
-each-same-length-21 t c = c .before .before .before .before .before .before .before .before .before .before .before .each .kept .1 .1 .1 .1 .0 ∙ c .before .before .before .before .before .before .before .before .before .before .before .before .before .before .before .before .before .before .before .before .before .before .before .before .before .before .before .before .before .before .loop2 .inv .same .indexes ∙ c .before .before .before .before .before .before .before .before .before .before .before .before .before .before .before .before .before .before .before .before .before .before .before .before .before .before .before .before .before .before .before .before .before .before .loop .inv .same .indexes
+each-same-length-21 t c = c .before .before .before .before .before .before .before .before .before .before .before .each .kept .1 .1 .1 .1 .0 ∙ c .before .before .before .before .before .before .before .before .before .before .before .before .before .before .before .before .before .before .before .before .before .before .before .before .before .before .before .before .before .before .before .loop2 .inv .same .indexes ∙ c .before .before .before .before .before .before .before .before .before .before .before .before .before .before .before .before .before .before .before .before .before .before .before .before .before .before .before .before .before .before .before .before .before .before .before .loop .inv .same .indexes
 
 each-same-length-22 : (t : ℕ) → each-lts.Need-same-length-22 (each-claims t) (each-at t) each.Post each-Inv-loop2 each-μ-loop2 each-Inv-loop each-μ-loop
-each-same-length-22 t c = c .before .before .before .before .before .before .before .before .before .before .before .each .kept .1 .1 .1 .1 .1 .0 ∙ c .before .before .before .before .before .before .before .before .before .before .before .before .before .before .before .before .before .before .before .before .before .before .before .before .before .before .before .before .before .before .loop2 .inv .same .firsts ∙ c .before .before .before .before .before .before .before .before .before .before .before .before .before .before .before .before .before .before .before .before .before .before .before .before .before .before .before .before .before .before .before .before .before .before .loop .inv .same .firsts
+each-same-length-22 t c = c .before .before .before .before .before .before .before .before .before .before .before .each .kept .1 .1 .1 .1 .1 .0 ∙ c .before .before .before .before .before .before .before .before .before .before .before .before .before .before .before .before .before .before .before .before .before .before .before .before .before .before .before .before .before .before .before .loop2 .inv .same .firsts ∙ c .before .before .before .before .before .before .before .before .before .before .before .before .before .before .before .before .before .before .before .before .before .before .before .before .before .before .before .before .before .before .before .before .before .before .before .loop .inv .same .firsts
 
 each-same-length-23 : (t : ℕ) → each-lts.Need-same-length-23 (each-claims t) (each-at t) each.Post each-Inv-loop2 each-μ-loop2 each-Inv-loop each-μ-loop
-each-same-length-23 t c = c .before .before .before .before .before .before .before .before .before .before .before .each .kept .1 .1 .1 .1 .1 .1 .0 ∙ c .before .before .before .before .before .before .before .before .before .before .before .before .before .before .before .before .before .before .before .before .before .before .before .before .before .before .before .before .before .before .loop2 .inv .same .widths ∙ c .before .before .before .before .before .before .before .before .before .before .before .before .before .before .before .before .before .before .before .before .before .before .before .before .before .before .before .before .before .before .before .before .before .before .loop .inv .same .widths
+each-same-length-23 t c = c .before .before .before .before .before .before .before .before .before .before .before .each .kept .1 .1 .1 .1 .1 .1 .0 ∙ c .before .before .before .before .before .before .before .before .before .before .before .before .before .before .before .before .before .before .before .before .before .before .before .before .before .before .before .before .before .before .before .loop2 .inv .same .widths ∙ c .before .before .before .before .before .before .before .before .before .before .before .before .before .before .before .before .before .before .before .before .before .before .before .before .before .before .before .before .before .before .before .before .before .before .before .loop .inv .same .widths
 
 each-same-length-24 : (t : ℕ) → each-lts.Need-same-length-24 (each-claims t) (each-at t) each.Post each-Inv-loop2 each-μ-loop2 each-Inv-loop each-μ-loop
-each-same-length-24 t c = c .before .before .before .before .before .before .before .before .before .before .before .each .kept .1 .1 .1 .1 .1 .1 .1 .0 ∙ c .before .before .before .before .before .before .before .before .before .before .before .before .before .before .before .before .before .before .before .before .before .before .before .before .before .before .before .before .before .before .loop2 .inv .same .values ∙ c .before .before .before .before .before .before .before .before .before .before .before .before .before .before .before .before .before .before .before .before .before .before .before .before .before .before .before .before .before .before .before .before .before .before .loop .inv .same .values
+each-same-length-24 t c = c .before .before .before .before .before .before .before .before .before .before .before .each .kept .1 .1 .1 .1 .1 .1 .1 .0 ∙ c .before .before .before .before .before .before .before .before .before .before .before .before .before .before .before .before .before .before .before .before .before .before .before .before .before .before .before .before .before .before .before .loop2 .inv .same .values ∙ c .before .before .before .before .before .before .before .before .before .before .before .before .before .before .before .before .before .before .before .before .before .before .before .before .before .before .before .before .before .before .before .before .before .before .before .loop .inv .same .values
 
 each-returns-4 : (t : ℕ) → each-lts.Need-returns-4 (each-claims t) (each-at t) each.Post each-Inv-loop2 each-μ-loop2 each-Inv-loop each-μ-loop
-each-returns-4 t c = turns-off _ _ _ _ _ _ _ _ _ _ _ _ _ _ _ _ _ _ (c .before .before .before .before .before .before .before .before .before .before .before .before .before .before .before .before .before .before .before .before .before .before .before .before .before .before .before .before .before .before .before .before .before .before .loop .inv) (c .before .before .before .before .before .before .before .before .before .before .before .before .before .before .before .before .before .before .before .before .before .before .before .before .before .before .before .before .before .before .before .before .before .loop-test .taken) _ (c .before .before .before .before .before .before .before .before .before .before .before .before .before .before .before .before .before .before .before .before .before .before .before .before .before .before .before .before .before .before .before .put .ensures) (c .before .before .before .before .before .before .before .before .before .before .before .each .result) _ _ _ (c .if9 .taken) (c .before .before .before .before .before .before .before .before .before .before .before .each .ensures .right) (each-off _ _ _ _ _ _ _ _ _ _ _ _ _ _ _ _ _ (c .before .before .before .before .before .before .before .before .before .before .before .before .before .before .before .before .before .before .before .before .before .before .before .before .before .before .before .before .before .before .loop2 .inv) (c .before .before .before .before .before .before .before .before .before .before .before .before .before .before .before .before .before .before .before .before .before .before .before .before .before .before .before .before .before .loop2-test .taken) _ refl (c .before .before .before .before .before .before .before .before .before .before .before .before .before .before .before .before .before .before .before .before .before .before .before .before .before .before .before .if1 .left) (c .before .before .before .before .before .before .before .before .before .before .before .before .before .before .before .before .before .before .before .before .before .before .before .before .before .before .if4 .left) (c .before .before .before .before .before .before .before .before .before .before .before .before .before .before .before .before .before .before .before .before .before .before .before .before .if7 .left) (c .before .before .before .before .before .before .before .before .before .before .before .before .before .before .before .before .before .before .before .before .before .before .loop-of .result) (c .before .before .before .before .before .before .before .before .before .before .before .before .before .before .before .before .before .before .before .before .before .before .loop-of .ensures .0) (c .before .before .before .before .before .before .before .before .before .before .before .each .result) _ _ _ (c .before .before .before .before .before .before .before .before .before .before .before .each .ensures) (c .if9 .taken))
+each-returns-4 t c = turns-off _ _ _ _ _ _ _ _ _ _ _ _ _ _ _ _ _ _ (c .before .before .before .before .before .before .before .before .before .before .before .before .before .before .before .before .before .before .before .before .before .before .before .before .before .before .before .before .before .before .before .before .before .before .before .loop .inv) (c .before .before .before .before .before .before .before .before .before .before .before .before .before .before .before .before .before .before .before .before .before .before .before .before .before .before .before .before .before .before .before .before .before .before .loop-test .taken) _ (c .before .before .before .before .before .before .before .before .before .before .before .before .before .before .before .before .before .before .before .before .before .before .before .before .before .before .before .before .before .before .before .before .put .ensures) (c .before .before .before .before .before .before .before .before .before .before .before .each .result) _ _ _ (c .if9 .taken) (c .before .before .before .before .before .before .before .before .before .before .before .each .ensures .right) (each-off _ _ _ _ _ _ _ _ _ _ _ _ _ _ _ _ _ (c .before .before .before .before .before .before .before .before .before .before .before .before .before .before .before .before .before .before .before .before .before .before .before .before .before .before .before .before .before .before .before .loop2 .inv) (c .before .before .before .before .before .before .before .before .before .before .before .before .before .before .before .before .before .before .before .before .before .before .before .before .before .before .before .before .before .before .loop2-test .taken) _ refl (c .before .before .before .before .before .before .before .before .before .before .before .before .before .before .before .before .before .before .before .before .before .before .before .before .before .before .before .before .if1 .left) (c .before .before .before .before .before .before .before .before .before .before .before .before .before .before .before .before .before .before .before .before .before .before .before .before .before .before .before .if4 .left) (c .before .before .before .before .before .before .before .before .before .before .before .before .before .before .before .before .before .before .before .before .before .before .before .before .before .if7 .left) (c .before .before .before .before .before .before .before .before .before .before .before .before .before .before .before .before .before .before .before .before .before .before .before .loop-of .result) (c .before .before .before .before .before .before .before .before .before .before .before .before .before .before .before .before .before .before .before .before .before .before .before .loop-of .ensures .0) (c .before .before .before .before .before .before .before .before .before .before .before .each .result) _ _ _ (c .before .before .before .before .before .before .before .before .before .before .before .each .ensures) (c .if9 .taken))
 
 each-loop2-less-6 : (t : ℕ) → each-lts.Need-loop2-less-6 (each-claims t) (each-at t) each.Post each-Inv-loop2 each-μ-loop2 each-Inv-loop each-μ-loop
-each-loop2-less-6 t c = weigh-past _ _ _ (c .before .before .before .before .before .before .before .before .before .before .before .before .before .before .before .before .before .before .before .before .before .before .before .before .before .before .before .before .before .loop2-test .taken) _
+each-loop2-less-6 t c = weigh-past _ _ _ (c .before .before .before .before .before .before .before .before .before .before .before .before .before .before .before .before .before .before .before .before .before .before .before .before .before .before .before .before .before .before .loop2-test .taken) _
 
 each-loop2-again-6 : (t : ℕ) → each-lts.Need-loop2-again-6 (each-claims t) (each-at t) each.Post each-Inv-loop2 each-μ-loop2 each-Inv-loop each-μ-loop
-each-loop2-again-6 t c = rows-each _ _ _ _ _ _ _ _ _ _ _ _ _ _ _ _ _ (c .before .before .before .before .before .before .before .before .before .before .before .before .before .before .before .before .before .before .before .before .before .before .before .before .before .before .before .before .before .before .loop2 .inv) (c .before .before .before .before .before .before .before .before .before .before .before .before .before .before .before .before .before .before .before .before .before .before .before .before .before .before .before .before .before .loop2-test .taken) _ refl (c .before .before .before .before .before .before .before .before .before .before .before .before .before .before .before .before .before .before .before .before .before .before .before .before .before .before .before .if1 .left) (c .before .before .before .before .before .before .before .before .before .before .before .before .before .before .before .before .before .before .before .before .before .before .before .before .before .before .if4 .left) (c .before .before .before .before .before .before .before .before .before .before .before .before .before .before .before .before .before .before .before .before .before .before .before .before .if7 .left) (c .before .before .before .before .before .before .before .before .before .before .before .before .before .before .before .before .before .before .before .before .before .before .loop-of .result) (c .before .before .before .before .before .before .before .before .before .before .before .before .before .before .before .before .before .before .before .before .before .before .loop-of .ensures .0) (c .before .before .before .before .before .before .before .before .before .before .before .each .result) _ _ _ (c .before .before .before .before .before .before .before .before .before .before .before .each .ensures) (c .if9 .left) (record { names = c .before .before .before .before .before .before .before .before .before .before .before .each .kept .1 .1 .0; blocks = c .before .before .before .before .before .before .before .before .before .before .before .each .kept .1 .1 .1 .0; indexes = c .before .before .before .before .before .before .before .before .before .before .before .each .kept .1 .1 .1 .1 .0; firsts = c .before .before .before .before .before .before .before .before .before .before .before .each .kept .1 .1 .1 .1 .1 .0; widths = c .before .before .before .before .before .before .before .before .before .before .before .each .kept .1 .1 .1 .1 .1 .1 .0; values = c .before .before .before .before .before .before .before .before .before .before .before .each .kept .1 .1 .1 .1 .1 .1 .1 .0 }) _ (c .before .before .before .before .before .before .before .before .before .before .before .before .before .before .before .before .before .before .before .before .before .before .before .before .before .before .before .before .before .before .before .before .before .before .before .before .before .before .before .before .before .pre .1 .stands)
+each-loop2-again-6 t c = rows-each _ _ _ _ _ _ _ _ _ _ _ _ _ _ _ _ _ (c .before .before .before .before .before .before .before .before .before .before .before .before .before .before .before .before .before .before .before .before .before .before .before .before .before .before .before .before .before .before .before .loop2 .inv) (c .before .before .before .before .before .before .before .before .before .before .before .before .before .before .before .before .before .before .before .before .before .before .before .before .before .before .before .before .before .before .loop2-test .taken) _ refl (c .before .before .before .before .before .before .before .before .before .before .before .before .before .before .before .before .before .before .before .before .before .before .before .before .before .before .before .before .if1 .left) (c .before .before .before .before .before .before .before .before .before .before .before .before .before .before .before .before .before .before .before .before .before .before .before .before .before .before .before .if4 .left) (c .before .before .before .before .before .before .before .before .before .before .before .before .before .before .before .before .before .before .before .before .before .before .before .before .before .if7 .left) (c .before .before .before .before .before .before .before .before .before .before .before .before .before .before .before .before .before .before .before .before .before .before .before .loop-of .result) (c .before .before .before .before .before .before .before .before .before .before .before .before .before .before .before .before .before .before .before .before .before .before .before .loop-of .ensures .0) (c .before .before .before .before .before .before .before .before .before .before .before .each .result) _ _ _ (c .before .before .before .before .before .before .before .before .before .before .before .each .ensures) (c .if9 .left) (record { names = c .before .before .before .before .before .before .before .before .before .before .before .each .kept .1 .1 .0; blocks = c .before .before .before .before .before .before .before .before .before .before .before .each .kept .1 .1 .1 .0; indexes = c .before .before .before .before .before .before .before .before .before .before .before .each .kept .1 .1 .1 .1 .0; firsts = c .before .before .before .before .before .before .before .before .before .before .before .each .kept .1 .1 .1 .1 .1 .0; widths = c .before .before .before .before .before .before .before .before .before .before .before .each .kept .1 .1 .1 .1 .1 .1 .0; values = c .before .before .before .before .before .before .before .before .before .before .before .each .kept .1 .1 .1 .1 .1 .1 .1 .0 }) _ (c .before .before .before .before .before .before .before .before .before .before .before .before .before .before .before .before .before .before .before .before .before .before .before .before .before .before .before .before .before .before .before .before .before .before .before .before .before .before .before .before .before .before .pre .1 .stands)
 
 each-add-j : (t : ℕ) → each-lts.Need-add-j (each-claims t) (each-at t) each.Post each-Inv-loop2 each-μ-loop2 each-Inv-loop each-μ-loop
 each-add-j t c = omega (arith, c .before .before .before .before .loop-test .taken)

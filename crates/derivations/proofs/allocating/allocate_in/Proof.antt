@@ -12,7 +12,7 @@ allocate-block-requires c κs =
     (pre .0, record { fast = a .1; slow = a .2; rate = c .before .before .before .before .before .before .before .before .before .before .rate .ensures .1 }, pre .1)
 
 returns : tie.Need-returns
-returns c = (allocate-is _ _ _ (c .before .before .before .before .before .before .before .before .before .before .alloc-state-of .result) _ _ (c .before .before .before .before .before .before .before .before .before .shape-of .result) (c .before .before .before .before .before .before .before .before .segments-in .result) (c .before .before .before .before .before .before .before .before .before .before .alloc-state-of .ensures .0) (c .before .before .before .before .before .before .before .before .before .before .before .rate .ensures .0 ∙ ap (λ x. x % 3) (c .before .before .before .before .before .before .before .before .before .before .before .before .cell-of .ensures)) (c .before .before .before .before .before .before .before .before .before .shape-of .ensures) (c .before .before .before .before .before .before .before .before .segments-in .ensures) (c .allocate-block .ensures .0), c .allocate-block .ensures .1)
+returns c = (allocate-is _ _ _ _ (c .before .before .before .before .before .before .before .before .before .before .alloc-state-of .result) _ _ (c .before .before .before .before .before .before .before .before .before .shape-of .result) (c .before .before .before .before .before .before .before .before .segments-in .result) (c .before .before .before .before .before .before .before .before .before .before .alloc-state-of .ensures .0) (c .before .before .before .before .before .before .before .before .before .before .before .rate .ensures .0 ∙ ap (λ x. x % 3) (c .before .before .before .before .before .before .before .before .before .before .before .before .cell-of .ensures)) (c .before .before .before .before .before .before .before .before .before .shape-of .ensures) (c .before .before .before .before .before .before .before .before .segments-in .ensures) (c .allocate-block .ensures .0), c .allocate-block .ensures .1)
 
 pub allocate-in-spec : {M : Type 1} → statement M
 allocate-in-spec =

@@ -4,7 +4,7 @@ use Rattle.eac3.proofs.answer.answer_of.Statement.{statement}
 use Rattle.eac3.proofs.answer.answer_of.Tie as tie
 
 returns : tie.Need-returns
-returns c = rw (c .none .ensures, c .before .if1 .taken) refl
+returns c = rw (c .refusal .ensures, c .before .if1 .taken) refl
 
 returns-2 : tie.Need-returns-2
 returns-2 c = rw (c .frame-of .ensures, c .before .if1 .left) refl

@@ -15,13 +15,13 @@ use Rattle.exponents.proofs.set.read_exponents.Statement.{statement}
 use Rattle.exponents.proofs.set.read_exponents.Tie as tie
 
 abbrev Inv-loop : tie.InvT-loop
-Inv-loop src names₀ blocks₀ indexes₀ firsts₀ widths₀ values₀ bins₀ at count limit most name block index slot strategy start end absexp step left₀ bin₀ prev₀ p₀ n₀ names blocks indexes firsts widths values bins left bin prev p n =
+Inv-loop src names₀ blocks₀ indexes₀ firsts₀ widths₀ values₀ exps₀ at count limit most name block index slot strategy start end absexp step left₀ bin₀ prev₀ p₀ n₀ names blocks indexes firsts widths values exps left bin prev p n =
     Standing src limit (part name (toZ w8 block) (toZ w16 index)) slot (sizeOf strategy)
-    (rest src limit (part name (toZ w8 block) (toZ w16 index)) slot (sizeOf strategy) left₀ bin₀ prev₀ bins₀ p₀ n₀ (room names₀ blocks₀ indexes₀ firsts₀ widths₀ values₀))
-    most bins₀ (room names₀ blocks₀ indexes₀ firsts₀ widths₀ values₀) left bin prev bins p n (room names blocks indexes firsts widths values)
+    (rest src limit (part name (toZ w8 block) (toZ w16 index)) slot (sizeOf strategy) left₀ bin₀ prev₀ exps₀ p₀ n₀ (room names₀ blocks₀ indexes₀ firsts₀ widths₀ values₀))
+    most exps₀ (room names₀ blocks₀ indexes₀ firsts₀ widths₀ values₀) left bin prev exps p n (room names blocks indexes firsts widths values)
 
 abbrev μ-loop : tie.MeasureT-loop
-μ-loop src names₀ blocks₀ indexes₀ firsts₀ widths₀ values₀ bins₀ at count limit most name block index slot strategy start end absexp step left₀ bin₀ prev₀ p₀ n₀ names blocks indexes firsts widths values bins left bin prev p n = left
+μ-loop src names₀ blocks₀ indexes₀ firsts₀ widths₀ values₀ exps₀ at count limit most name block index slot strategy start end absexp step left₀ bin₀ prev₀ p₀ n₀ names blocks indexes firsts widths values exps left bin prev p n = left
 
 mul-step : tie.Need-mul-step Inv-loop μ-loop
 mul-step c = omega (arith, c .group-size .ensures .2)

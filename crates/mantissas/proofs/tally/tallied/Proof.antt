@@ -9,4 +9,4 @@ returns : tie.Need-returns
 returns c = c .fields .ensures ∙ rw (c .before .sum .ensures) (unpacked _ _ _ _ (omega arith))
 
 pub tallied-spec : {M : Type 1} → statement M
-tallied-spec = tie.close (tie.spec (λ c κs. search needs) (λ c κs. search needs) returns)
+tallied-spec = tie.close (tie.spec (λ c κs. search needs) (λ c κs. search needs) (λ c κs. search needs) returns)
