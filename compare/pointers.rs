@@ -126,13 +126,14 @@ pub fn pointers(q: &Request, out: &mut [u8; 256]) {
         mask[band] = mask[band].max(i32::from(HEARING[50 * q.fscod + band]));
     }
     deltas(q, &mut mask);
-    let table = &POINTERS[if q.hebap { 64 } else { 0 }..][..64];
+    // Our table has the entry of the address a at 160 - a.
+    let table = &POINTERS[if q.hebap { 512 } else { 0 }..][..512];
     let mut bin = q.start;
     for band in first..=last {
         let stop = (BAND_END[band] as usize).min(q.end);
         let level = (mask[band] - q.snroffset - floor).max(0) / 32 % 256 * 32 + floor;
         while bin < stop {
-            out[bin] = table[((power(q.exps[bin]) - level).max(0) / 32).min(63) as usize];
+            out[bin] = table[160 - ((power(q.exps[bin]) - level).max(0) / 32).min(63) as usize];
             bin += 1;
         }
     }
