@@ -229,7 +229,7 @@ fn high(x: usize) -> u8
     (x / 256 % 256) as u8
 }
 
-// The words of a slot's own: how many segments there are, the kind, the channel.
+// The word of what a slot has of its own: how many segments there are, the kind, the channel.
 fn own_of(hybrid: bool, fgaincod: u8, c: Channel, n: usize) -> u64
     requires { ⌜ n ≤ 8 ⌝ }
     ensures { λ r. ⌜ Packs ((n + 1) ∷ cond hybrid 1 0 ∷ c .start % 256 ∷ c .start / 256 % 256 ∷ c .end % 256 ∷ fgaincod ∷ c .csnroffst ∷ c .fsnroffst ∷ []) r ⌝ }

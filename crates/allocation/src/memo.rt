@@ -1,11 +1,11 @@
 // What is kept of the last allocation of each slot: six words. Five say what its pointers were computed from, but for
 // the exponents; the last is the tally of the pointers. The first word is 0 where the slot is stale: its exponents are
 // not those that its pointers were computed from.
+use crate::both;
 use mantissas::tally::Tally;
 use mantissas::tally::fields;
 use mantissas::tally::tallied;
 ghost use mathlib.Core.Path.{_≡_};
-ghost use mathlib.Core.Bool.{_&&_};
 ghost use mathlib.Core.List.{List, [], _∷_};
 ghost use Prim.Native.Nat.{ℕ, _+_, _-_, _*_, _%_, _/_, _<_, _≤_};
 ghost use lib.Dec.{eqb};
@@ -41,12 +41,6 @@ pub fn word_of(a: [u8; 8]) -> u64
     ensures { λ r. ⌜ Packs a r ⌝ }
 {
     word(a[0], a[1], a[2], a[3], a[4], a[5], a[6], a[7])
-}
-
-fn both(a: bool, b: bool) -> bool
-    ensures { λ r. ⌜ r ≡ a && b ⌝ }
-{
-    a & b
 }
 
 // Whether a slot is kept, and was computed from this.
