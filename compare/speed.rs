@@ -21,7 +21,7 @@ const ROOM: usize = 32_782;
 const TURNS: usize = 101;
 
 struct Set {
-    title: &'static str,
+    title: String,
     frames: Vec<Vec<u8>>,
 }
 
@@ -29,7 +29,7 @@ fn accepted(f: &[u8]) -> bool {
     reference::eac3::parse(f).is_ok()
 }
 
-fn drawn(title: &'static str, kind: Kind, seed: u64, wanted: impl Fn(&reference::frame::Frame) -> bool) -> Set {
+fn drawn(title: &str, kind: Kind, seed: u64, wanted: impl Fn(&reference::frame::Frame) -> bool) -> Set {
     let mut d = Drawer::new(seed);
     let mut frames = Vec::new();
     while frames.len() < 200 {
@@ -38,7 +38,21 @@ fn drawn(title: &'static str, kind: Kind, seed: u64, wanted: impl Fn(&reference:
             frames.push(f)
         }
     }
-    Set { title, frames }
+    Set { title: title.to_string(), frames }
+}
+
+/// Sets of real and drawn frames by their bytes, at most 100 each: how the time grows with the frame.
+fn by_size(real: &[(String, Vec<u8>)]) -> Vec<Set> {
+    const BOUNDS: [usize; 9] = [30, 64, 128, 256, 512, 1024, 2048, 3072, 4097];
+    let mut d = Drawer::new(6);
+    let mut all: Vec<Vec<u8>> = real.iter().map(|x| x.1.clone()).chain((0..4000).map(|_| d.frame(Kind::Any))).collect();
+    all.retain(|f| accepted(f));
+    let between = |a: usize, b: usize| -> Vec<Vec<u8>> {
+        let some: Vec<_> = all.iter().filter(|f| (a..b).contains(&f.len())).collect();
+        let step = some.len().div_ceil(100).max(1);
+        some.into_iter().step_by(step).cloned().collect()
+    };
+    BOUNDS.windows(2).map(|w| Set { title: format!("{} to {} bytes", w[0], w[1] - 1), frames: between(w[0], w[1]) }).collect()
 }
 
 #[repr(C)]
@@ -98,15 +112,16 @@ fn main() {
         let six = |f: &[u8]| f[4] >> 4 & 3 == 3;
         all.iter().filter(|(name, f)| name.starts_with(start) && six(f) && accepted(f)).map(|x| x.1.clone()).collect()
     };
-    let sets = [
-        Set { title: "real, 5.1 channels", frames: some("5.1-") },
-        Set { title: "real, stereo", frames: some("stereo-") },
+    let mut sets = vec![
+        Set { title: "real, 5.1 channels".to_string(), frames: some("5.1-") },
+        Set { title: "real, stereo".to_string(), frames: some("stereo-") },
         drawn("drawn, adaptive hybrid transform", Kind::Hybrid, 1, |f| !f.aht_slots.is_empty()),
         drawn("drawn, spectral extension", Kind::Extension, 2, |f| f.spx_blocks > 0),
         drawn("drawn, coupling", Kind::Coupling, 3, |f| f.cpl_blocks > 0),
         drawn("drawn, any", Kind::Any, 4, |_| true),
         drawn("smallest", Kind::Smallest, 5, |f| f.bytes < 40),
     ];
+    sets.extend(by_size(&all));
     let mut rooms = Rooms::new();
     for set in &sets {
         time(set, &mut rooms)

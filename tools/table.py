@@ -102,7 +102,7 @@ def refusal(condition, failure, place):
     relations = ["Differs", "Over", "Under", "AtLeast"]
     base, by, row = address(condition[1])
     if condition[0] not in relations:
-        return fields((0, 11), (4, base), (14, by), (19, row), (23, failure), (48, mask(condition)))
+        return fields((0, 11), (4, base), (14, by), (19, row), (23, mask(condition)), (54, failure))
     kind, part = condition[2]
     if kind == "Word":
         than = fields((39, number(part)))
@@ -181,7 +181,7 @@ class Table:
         elif kind == "when":
             inner, rest = self.rows([rest[1]], block), rest[:1]
             base, by, row = address(rest[0][1])
-            value = fields((0, 9 if by or row else 8), (4, base), (14, by), (19, row), (23, len(inner)), (48, mask(rest[0])))
+            value = fields((0, 9 if by or row else 8), (4, base), (14, by), (19, row), (23, mask(rest[0])), (54, len(inner)))
         elif kind == "each":
             inner, rest = self.rows([rest[3]], block), rest[:3]
             start, start_of = sum_of(rest[1])
@@ -195,7 +195,7 @@ class Table:
         elif kind == "put":
             value = put(rest[0], rest[1])
         elif kind == "fill":
-            value = fields((0, 28), (7, number(rest[0])), (22, number(rest[1]))) + linear(number(rest[2]), number(rest[3]), rest[4])
+            value = fields((0, 10), (4, 5), (7, number(rest[0])), (22, number(rest[1]))) + linear(number(rest[2]), number(rest[3]), rest[4])
         elif kind == "derive":
             value = fields((0, 12), (5, number(rest[0])))
         else:

@@ -1,10 +1,10 @@
--- Values at the edges, and how large a pointer is.
+-- Values at the edges, the pointers of an empty range, and how large a pointer is.
 -- Assumes nothing.
 use mathlib.Core.Path.{_≡_, refl}
 use mathlib.Core.List.{List}
 use Prim.Native.Nat.{ℕ, _≤_}
 use lib.IntN.{ℤ, pos, negsuc, _+ℤ_}
-use lib.ListN.{getD}
+use lib.ListN.{getD, replicate}
 use Rattle.tables.proofs.Limits.{bap-at-most-15, hebap-at-most-19}
 use Rattle.tables.proofs.Neighbours.{latab-high}
 use Rattle.alloc.specs.Allocation.{maxZ, logadd, snroffset, pointer, allocation}
@@ -12,8 +12,9 @@ use Rattle.alloc.specs.declared.Channel.{Channel}
 use Rattle.alloc.specs.declared.Deltas.{Deltas}
 use Rattle.alloc.specs.declared.Leak.{Leak}
 use Rattle.alloc.specs.declared.Params.{Params}
+use Rattle.alloc.specs.declared.Pointers.{Pointers}
 use Rattle.alloc.specs.declared.Pointers.the-variants.{Bap, Hebap}
-use Rattle.alloc.proofs.Lists.{ranged-most}
+use Rattle.alloc.proofs.Lists.{ranged-none, ranged-most}
 
 -- rows for the table of proved values
 pub offset-0-0 : snroffset 0 0 ≡ negsuc 959
@@ -36,6 +37,11 @@ pub record Above (m r : ℤ) : Type 0 where
 
 pub logadd-above : (a b : ℤ) → Above (maxZ a b) (logadd a b)
 logadd-above a b = record { by = _; is = refl; most = latab-high _ }
+
+pub none-allocated : (kind : Pointers) (exp : List ℕ) (c : Channel) (q : Params) (l : Leak) (d : Deltas) → c .end ≤ c .start
+    → replicate 256 0 ≡ allocation kind exp c q l d
+unfolding allocation
+none-allocated kind exp c q l d h = ranged-none (pointer kind exp c q l d) (c .start) (c .end) 256 h
 
 module _ (exp : List ℕ) (c : Channel) (q : Params) (l : Leak) (d : Deltas) (k : ℕ) where
   pub pointer-at-most-15 : getD (allocation Bap exp c q l d) k 0 ≤ 15

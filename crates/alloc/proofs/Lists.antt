@@ -167,10 +167,15 @@ module _ (f : ℕ → ℕ) (lo hi n : ℕ) (a b c d : List ℕ) (size : length a
   pub written-whole : d ≡ tab (λ k. cond (leb lo k && ltb k hi) (f k) 0) 0 n
   written-whole = tab-of _ n d (three .size ∙ two .size ∙ one .size ∙ size) (λ k h. each k h (decLt k lo) (decLt k hi))
 
--- an empty range: zeros throughout
-pub written-empty : (f : ℕ → ℕ) (lo hi n : ℕ) (a b : List ℕ) → length a ≡ n → hi ≤ lo → Written (λ k. 0) 0 n a b
-    → b ≡ tab (λ k. cond (leb lo k && ltb k hi) (f k) 0) 0 n
-written-empty f lo hi n a b size le w = tab-of _ n b (w .size ∙ size) (λ k h. w .made k (omega arith) h ∙ sym (at k (decLt k lo)))
+-- zeros throughout
+pub written-zeros : (n : ℕ) (a b : List ℕ) → length a ≡ n → Written (λ k. 0) 0 n a b → b ≡ replicate n 0
+written-zeros n a b size w =
+    ext-getD 0 b (replicate n 0) (w .size ∙ size ∙ sym (length-replicate n 0))
+    (λ k h. let l = w .size in w .made k (omega arith) (omega arith) ∙ sym (zeros n k))
+
+-- an empty range
+pub ranged-none : (f : ℕ → ℕ) (lo hi n : ℕ) → hi ≤ lo → replicate n 0 ≡ tab (λ k. cond (leb lo k && ltb k hi) (f k) 0) 0 n
+ranged-none f lo hi n le = tab-of _ n (replicate n 0) (length-replicate n 0) (λ k h. zeros n k ∙ sym (at k (decLt k lo)))
   where
     at : (k : ℕ) → Dec (k < lo) → cond (leb lo k && ltb k hi) (f k) 0 ≡ 0
     at k (yes p) = sooner-than lo hi k (f k) 0 p

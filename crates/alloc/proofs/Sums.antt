@@ -1,20 +1,22 @@
 -- The sums of the bands.
 -- Assumes nothing.
-use mathlib.Core.Path.{_≡_, _∙_, sym}
+use mathlib.Core.Path.{_≡_, refl, _∙_, sym}
 use mathlib.Core.Bool.{cond, _&&_}
 use mathlib.Core.List.{List}
-use Prim.Native.Nat.{ℕ, zero, suc, _+_, _-_, _*_, _<_, _≤_}
+use Prim.Native.Nat.{ℕ, zero, suc, _+_, _-_, _*_, _<_, _≤_, max, min}
 use native.Mathlib.Decide.{decLt}
+use native.Mathlib.Nat.{le-refl}
+use native.Mathlib.Numerals.{add-one}
 use native.Mathlib.Omega.{arith}
-use borrow.Author.Tests.{le-ltb}
+use borrow.Author.Tests.{lt-ltb, le-ltb}
 use lib.Dec.{ltb, leb}
 use lib.ListN.{getD, replicate, List·getD-eq-default}
 use Rattle.tables.specs.Bands.{bandOf, startOf, endOf}
-use Rattle.tables.proofs.Bins.{own-band, apart-bands}
+use Rattle.tables.proofs.Bins.{own-band, apart-bands, bands-rise, single-band}
 use Rattle.alloc.specs.Allocation.{tab, firstIn, lastIn}
 use Rattle.alloc.specs.Levels.{logaddL, psdL, sumL, bndpsdL, bndpsdsL}
 use Rattle.alloc.specs.Premises.{Written}
-use Rattle.alloc.proofs.Lists.{length-tab, getD-tab, tab-same, within, outside, sooner-than, written-list, picked-low}
+use Rattle.alloc.proofs.Lists.{length-tab, getD-tab, tab-same, within, outside, sooner-than, written-none, written-join, written-list, picked-low}
 use Rattle.alloc.proofs.LogSums.{logadd-bound}
 
 -- a sum of n + 1 powers is at most 64 n above one of 3072
@@ -31,6 +33,35 @@ sum-more exp lo j h =
     let z : j + 1 - lo - 1 ≡ suc (j - lo - 1) = omega arith in
     let l : suc (lo + (j - lo - 1)) ≡ j = omega arith in
     rw (z, l)
+
+-- a band below 29 starts at the bin of its number
+single-start : (k : ℕ) → k < 29 → startOf k ≡ k
+single-start zero h = refl
+single-start (suc j) h =
+    let a = rw (single-band j (omega arith)) at (own-band j (omega arith)) in
+    let b = rw (single-band (suc j) h) at (own-band (suc j) (omega arith)) in
+    omega (arith, a .to, b .from)
+
+-- a band of one bin has its power
+single-power : (exp : List ℕ) (start end k : ℕ) → start ≤ k → k < end → k < 28 → psdL (getD exp k 0) ≡ bndpsdL exp start end k
+single-power exp start end k a b h =
+    let s = single-start k (omega arith) in
+    let e : endOf k ≡ k + 1 = single-start (suc k) (omega arith) ∙ sym (add-one k) in
+    let lo : firstIn start k ≡ k = omega arith in
+    let hi : lastIn end k ≡ k + 1 = omega arith in
+    let z : k + 1 - k - 1 ≡ 0 = omega arith in
+    rw (lo, hi, lt-ltb k (k + 1) (omega arith), z) refl
+
+-- the band of a bin has the bin's number up to 28, and no less from there on
+pub band-least : (bin : ℕ) → bin < 253 → min bin 28 ≤ bandOf bin
+band-least bin h = by (decLt bin 28)
+  where
+    by : Dec (bin < 28) → min bin 28 ≤ bandOf bin
+    by (yes b) = let s = single-band bin (omega arith) in omega arith
+    by (no b) =
+        let s = single-band 28 (omega arith) in
+        let r = bands-rise 28 bin (bandOf 28) (bandOf bin) (omega arith) (own-band 28 (omega arith)) (own-band bin h) in
+        omega arith
 
 -- the bands of a range that is not empty; the others keep the level of 0
 module _ (exp : List ℕ) (start end : ℕ) (some : start < end) (most : end ≤ 253) where
@@ -49,12 +80,35 @@ module _ (exp : List ℕ) (start end : ℕ) (some : start < end) (most : end ≤
       let r : endOf (bandOf (end - 1)) ≤ startOf k = apart-bands (bandOf (end - 1)) k (omega arith) h in
       outside (bandOf start) (bandOf (end - 1) + 1) k _ 8192 p (omega arith) ∙ sym (none k (omega (arith, b .to)))
 
-  pub bands-are : (bnd : List ℕ) → Written (bndpsdL exp start end) (bandOf start) (bandOf (end - 1) + 1) (replicate 50 8192) bnd
-      → bnd ≡ bndpsdsL exp start end
-  unfolding bndpsdsL
-  bands-are bnd w =
-      written-list (bndpsdL exp start end) (bandOf start) (bandOf (end - 1) + 1) 50 8192 bnd w
-      ∙ tab-same _ (bndpsdL exp start end) 50 (λ k h. at k h (decLt k _) (decLt k _))
+  -- where the bands below 28 end
+  pub singles-end : max (bandOf start) (min end 28) ≤ bandOf (end - 1) + 1
+  singles-end =
+      let e = own-band (end - 1) (omega arith) in
+      let r = bands-rise start (end - 1) (bandOf start) (bandOf (end - 1)) (omega arith) (own-band start (omega arith)) e in
+      let l = band-least (end - 1) (omega arith) in
+      omega arith
+
+  module _ (mid : ℕ) (one bnd : List ℕ) (e : mid ≡ max (bandOf start) (min end 28))
+      (w : Written (λ k. psdL (getD exp k 0)) (bandOf start) mid (replicate 50 8192) one)
+      (v : Written (bndpsdL exp start end) mid (bandOf (end - 1) + 1) one bnd) where
+    same : (k : ℕ) → bandOf start ≤ k → k < mid → psdL (getD exp k 0) ≡ bndpsdL exp start end k
+    same k a b =
+        let l = band-least start (omega arith) in
+        single-power exp start end k (omega arith) (omega arith) (omega arith)
+
+    -- those, and the others
+    both : Written (bndpsdL exp start end) (bandOf start) (bandOf (end - 1) + 1) (replicate 50 8192) bnd
+    both =
+        let m = singles-end in
+        let f = bndpsdL exp start end in
+        let u = written-join f _ (bandOf start) (bandOf start) mid _ _ one (le-refl (bandOf start)) (omega arith) (written-none f (bandOf start) _) w same in
+        written-join f f (bandOf start) mid (bandOf (end - 1) + 1) _ one bnd (omega arith) (omega arith) u v (λ k a b. refl)
+
+    pub bands-are : bnd ≡ bndpsdsL exp start end
+    unfolding bndpsdsL
+    bands-are =
+        written-list (bndpsdL exp start end) (bandOf start) (bandOf (end - 1) + 1) 50 8192 bnd both
+        ∙ tab-same _ (bndpsdL exp start end) 50 (λ k h. at k h (decLt k _) (decLt k _))
 
 power-low : (exp : List ℕ) (start end k : ℕ) → end ≤ 253 → bndpsdL exp start end k < 32768
 power-low exp start end k h =

@@ -8,7 +8,7 @@ ghost use mathlib.Core.Bool.{cond};
 ghost use Prim.Native.Nat.{ℕ, _+_, _-_, _*_, _/_, _%_, _<_, _≤_, max, min};
 ghost use lib.Dec.{ltb};
 ghost use lib.IntN.{pos, negsuc};
-ghost use lib.ListN.{length, getD};
+ghost use lib.ListN.{length, getD, replicate};
 ghost use lib.Signed.{_≤ℤ_};
 ghost use Rattle.tables.specs.BitAllocation.{latab as laTab, bndend, masktab as maskTab, hth as hthTab};
 ghost use Rattle.tables.specs.Bands.{bandOf, startOf, endOf, BinBand};
@@ -209,7 +209,19 @@ fn band_of(masktab: &[u8; 253], bin: usize) -> usize
     index(masktab[bin])
 }
 
-// The sums of the bands of the bins start .. end - 1, which are the bands first .. last - 1.
+// The powers of the bins from .. to - 1 below 28, each of which is a band.
+fn single_bands(exps: &[u8], bnd: &mut [u32; 50], from: usize, to: usize)
+    requires { ⌜ (from ≤ to) × (to ≤ max from 28) × Exponents (now exps) from to × (length (now bnd) ≡ 50) ⌝ }
+    ensures { λ r. ⌜ Written (λ b. psdL (getD (now (exps .entry)) b 0)) from to (now (bnd .entry)) (now (bnd .exit)) ⌝ }
+{
+    let mut j = from;
+    while j < to {
+        bnd[j] = power(exps[j]);
+        j += 1;
+    }
+}
+
+// The sums of the bands of the bins start .. end - 1, which are the bands first .. last - 1: those below 28, and the others.
 fn bands(
     latab: &[u8; 256],
     ends: &[u8; 50],
@@ -224,7 +236,9 @@ fn bands(
     ensures { λ r. ⌜ r ≡ bndpsdsL (now (exps .entry)) start end ⌝ }
 {
     let mut bnd = [8192u32; 50];
-    let mut k = first;
+    let mid = later(first, sooner(end, 28));
+    single_bands(exps, &mut bnd, first, mid);
+    let mut k = mid;
     while k < last {
         let lo = later(start, start_of(ends, k));
         let hi = sooner(end, end_of(ends, k));
@@ -683,6 +697,14 @@ fn clear(out: &mut [u8], from: usize, to: usize)
     }
 }
 
+// The pointers of an empty range: 256 zeros.
+pub fn no_bins(out: &mut [u8])
+    requires { ⌜ length (now out) ≡ 256 ⌝ }
+    ensures { λ r. ⌜ now (out .exit) ≡ replicate 256 0 ⌝ }
+{
+    clear(out, 0, 256);
+}
+
 // The pointers of a range that is not empty, on levels.
 fn allocate_some(
     latab: &[u8; 256],
@@ -840,7 +862,7 @@ pub fn allocate(
     let start = c.start;
     let end = c.end;
     if end <= start {
-        clear(out, 0, 256);
+        no_bins(out);
         return 0;
     }
     let g = gains_of(c.fgain, p);

@@ -56,6 +56,10 @@ pub extern "C" fn alloc_by_codes(
     requires { ⌜ (end ≤ 253) × (n ≤ 8) × (fscod < 3) × (cplfleak < 8) × (cplsleak < 8) ⌝ }
     ensures { λ r. ⌜ now (out .exit) ≡ allocation (kindOf hebap) (now (exps .entry)) (channelOf start end fgaincod csnroffst fsnroffst) (paramsOf sdcycod fdcycod sgaincod dbpbcod floorcod fscod) (leakBy coupling cplfleak cplsleak) (deltasOf n (now (offset .entry)) (now (len .entry)) (now (ba .entry))) ⌝ }
 {
+    if end <= start {
+        alloc::no_bins(out);
+        return;
+    }
     let latab = tables::log_add();
     let masktab = tables::masktab();
     let ends = tables::band_end();

@@ -11,7 +11,7 @@ use lib.ListN.{length, getD, take, drop, set, replicate, length-set, length-repl
 use lib.Seq.{ext-getD, getD-set-same, getD-set-other, getD-take, getD-drop}
 use borrow.Author.Tests.{eqb-true, ltb-true, ltb-false, not-false}
 use Rattle.tables.specs.BitAllocation.{fastgain}
-use Rattle.alloc.specs.Allocation.{tab, allocation, leakOf, paramsOf}
+use Rattle.alloc.specs.Allocation.{tab, allocation, leakOf}
 use Rattle.alloc.specs.Shares.{sharesOf}
 use Rattle.alloc.specs.declared.Params.{Params}
 use Rattle.alloc.specs.declared.Channel.{Channel}
@@ -25,9 +25,9 @@ use Rattle.slots.specs.declared.Shape.{Shape}
 use Rattle.mantissas.specs.Tally.{aloneOf, countOf, packed, tallyOf, shareOf}
 use Rattle.mantissas.proofs.TallyLaws.{share-at, total-is}
 use Rattle.allocation.proofs.Unmet.{pointer-within}
-use Rattle.allocation.specs.State.{segmentsOf, silentOf, channelOf, expsIn, pointedOf, pointersOf, pointSlot, pointSlots, kindOf, leakFor, paramsFor}
+use Rattle.allocation.specs.State.{segmentsOf, silentOf, channelOf, expsIn, pointedOf, pointersOf, pointSlots, kindOf, leakFor, paramsFor}
 use Rattle.allocation.specs.Coded.{silenced}
-use Rattle.allocation.specs.Memo.{byteOf, eightIn, Short, Packs, kindBy, startBy, endBy, channelBy, paramsBy, leakBy, deltasBy, allocationBy, Says, sourceAt, Tallies, Memo, staleOf, Kept, Noted, Stale, Passes}
+use Rattle.allocation.specs.Memo.{byteOf, eightIn, Short, Packs, startBy, endBy, channelBy, paramsBy, leakBy, SameLeaks, deltasBy, allocationBy, Says, sourceAt, Tallies, Memo, staleOf, Kept, Noted, Stale, Passes}
 use Rattle.allocation.specs.declared.Codes.{Codes}
 use Rattle.allocation.specs.declared.AllocState.{AllocState}
 use Rattle.allocation.specs.declared.Segments.{Segments}
@@ -115,9 +115,6 @@ channel-is : (c : Channel) (a b e f g : ℕ) → a ≡ c .start → b ≡ c .end
     → _≡_ {A = Channel} (record { start = a; end = b; fgain = e; csnroffst = f; fsnroffst = g }) c
 channel-is c a b e f g p q r s t = rw (p, q, r, s, t)
 
-params-is : (a b c d e f a′ b′ c′ d′ e′ f′ : ℕ) → a ≡ a′ → b ≡ b′ → c ≡ c′ → d ≡ d′ → e ≡ e′ → f ≡ f′ → paramsOf a b c d e f ≡ paramsOf a′ b′ c′ d′ e′ f′
-params-is a b c d e f a′ b′ c′ d′ e′ f′ p q r s t u = rw (p, q, r, s, t, u)
-
 leak-is : (b : Bool) (f s f′ s′ : ℕ) → f′ ≡ f → s′ ≡ s → cond b (leakOf f′ s′) Absent ≡ cond b (leakOf f s) Absent
 leak-is b f s f′ s′ g h = rw (g, h)
 
@@ -134,10 +131,18 @@ some : (w n : ℕ) → byteOf w 0 ≡ n + 1 → 0 < w
 unfolding byteOf
 some w n e = omega arith
 
-module _ (st : AllocState) (q : Codes) (fscod : ℕ) (shape : Shape) (slot : ℕ) (c : Channel) (d : Deltas) (s : Source) (t : Bool) (et : t ≡ getD (shape .ahtinu) slot false)
+-- the word of what all slots have in common
+pub common-params : (q : Codes) (fscod x y w : ℕ) → Packs (q .sdcycod ∷ q .fdcycod ∷ q .sgaincod ∷ q .dbpbcod ∷ q .floorcod ∷ fscod ∷ x ∷ y ∷ []) w → paramsBy w ≡ paramsFor q fscod
+common-params q fscod x y w p =
+    rw (p .bytes 0 (omega arith), p .bytes 1 (omega arith), p .bytes 2 (omega arith), p .bytes 3 (omega arith), p .bytes 4 (omega arith), p .bytes 5 (omega arith))
+
+pub common-leaks : (st : AllocState) (a b c d e f w : ℕ) → Packs (a ∷ b ∷ c ∷ d ∷ e ∷ f ∷ st .cplfleak ∷ st .cplsleak ∷ []) w → SameLeaks w st
+common-leaks st a b c d e f w p = record { fast = p .bytes 6 (omega arith); slow = p .bytes 7 (omega arith) }
+
+module _ (st : AllocState) (shape : Shape) (slot : ℕ) (c : Channel) (d : Deltas) (s : Source) (t : Bool) (et : t ≡ getD (shape .ahtinu) slot false)
     (hs : c .start < 65536) (he : c .end ≤ 253) (hg : c .fgain ≡ getD fastgain (getD (st .fgaincod) slot 0) 0)
     (own : Packs ((d .n + 1) ∷ cond t 1 0 ∷ c .start % 256 ∷ c .start / 256 % 256 ∷ c .end % 256 ∷ getD (st .fgaincod) slot 0 ∷ c .csnroffst ∷ c .fsnroffst ∷ []) (s .own))
-    (common : Packs (q .sdcycod ∷ q .fdcycod ∷ q .sgaincod ∷ q .dbpbcod ∷ q .floorcod ∷ fscod ∷ st .cplfleak ∷ st .cplsleak ∷ []) (s .common)) where
+    (leaks : SameLeaks (s .common) st) where
   count : byteOf (s .own) 0 - 1 ≡ d .n
   count = let z : byteOf (s .own) 0 ≡ d .n + 1 = own .bytes 0 (omega arith) in omega arith
 
@@ -147,31 +152,29 @@ module _ (st : AllocState) (q : Codes) (fscod : ℕ) (shape : Shape) (slot : ℕ
   end-is : endBy (s .own) ≡ c .end
   end-is = whole (c .end) _ he (own .bytes 4 (omega arith))
 
-  but-deltas : (x : List ℕ) → allocationBy slot s x ≡ allocation (kindOf shape slot) x c (paramsFor q fscod) (leakFor st slot) (deltasBy s)
+  but-deltas : (x : List ℕ) → allocationBy slot s x ≡ allocation (kindOf shape slot) x c (paramsBy (s .common)) (leakFor st slot) (deltasBy s)
   unfolding allocationBy kindOf leakFor
   but-deltas x =
-      ap (λ y. allocation y x (channelBy s) (paramsBy s) (leakBy slot s) (deltasBy s)) (kind-is t (byteOf (s .own) 1) (own .bytes 1 (omega arith)) ∙ ap (λ b. cond b Hebap Bap) et)
-      ∙ ap (λ y. allocation (kindOf shape slot) x y (paramsBy s) (leakBy slot s) (deltasBy s))
+      ap (λ y. allocation y x (channelBy s) (paramsBy (s .common)) (leakBy slot (s .common)) (deltasBy s)) (kind-is t (byteOf (s .own) 1) (own .bytes 1 (omega arith)) ∙ ap (λ b. cond b Hebap Bap) et)
+      ∙ ap (λ y. allocation (kindOf shape slot) x y (paramsBy (s .common)) (leakBy slot (s .common)) (deltasBy s))
       (channel-is c _ _ _ _ _ start-is end-is (ap (λ y. getD fastgain y 0) (own .bytes 5 (omega arith)) ∙ sym hg) (own .bytes 6 (omega arith)) (own .bytes 7 (omega arith)))
-      ∙ ap (λ y. allocation (kindOf shape slot) x c y (leakBy slot s) (deltasBy s))
-      (params-is _ _ _ _ _ _ _ _ _ _ _ _ (common .bytes 0 (omega arith)) (common .bytes 1 (omega arith)) (common .bytes 2 (omega arith)) (common .bytes 3 (omega arith)) (common .bytes 4 (omega arith)) (common .bytes 5 (omega arith)))
-      ∙ ap (λ y. allocation (kindOf shape slot) x c (paramsFor q fscod) y (deltasBy s)) (leak-is (eqb slot 5) (st .cplfleak) (st .cplsleak) _ _ (common .bytes 6 (omega arith)) (common .bytes 7 (omega arith)))
+      ∙ ap (λ y. allocation (kindOf shape slot) x c (paramsBy (s .common)) y (deltasBy s)) (leak-is (eqb slot 5) (st .cplfleak) (st .cplsleak) _ _ (leaks .fast) (leaks .slow))
 
-  pub says-none : d .n ≡ 0 → Says slot s (kindOf shape slot) c (paramsFor q fscod) (leakFor st slot) d
+  pub says-none : d .n ≡ 0 → Says slot s (kindOf shape slot) c (paramsBy (s .common)) (leakFor st slot) d
   says-none e = record {
     made = some (s .own) (d .n) (own .bytes 0 (omega arith));
     start = start-is;
     end = end-is;
-    is = λ x. but-deltas x ∙ no-deltas (kindOf shape slot) x c (paramsFor q fscod) (leakFor st slot) (deltasBy s) d (count ∙ e) e;
+    is = λ x. but-deltas x ∙ no-deltas (kindOf shape slot) x c (paramsBy (s .common)) (leakFor st slot) (deltasBy s) d (count ∙ e) e;
   }
 
   pub says-all : Short d → Packs (d .offset) (s .offset) → Packs (d .len) (s .len) → Packs (d .ba) (s .ba)
-      → Says slot s (kindOf shape slot) c (paramsFor q fscod) (leakFor st slot) d
+      → Says slot s (kindOf shape slot) c (paramsBy (s .common)) (leakFor st slot) d
   says-all short po pl pb = record {
     made = some (s .own) (d .n) (own .bytes 0 (omega arith));
     start = start-is;
     end = end-is;
-    is = λ x. but-deltas x ∙ ap (λ y. allocation (kindOf shape slot) x c (paramsFor q fscod) (leakFor st slot) y)
+    is = λ x. but-deltas x ∙ ap (λ y. allocation (kindOf shape slot) x c (paramsBy (s .common)) (leakFor st slot) y)
         (deltas-is d _ _ _ _ count (packs-is (d .offset) (s .offset) (short .offset) po) (packs-is (d .len) (s .len) (short .len) pl) (packs-is (d .ba) (s .ba) (short .ba) pb));
   }
 

@@ -55,18 +55,18 @@ channelBy s =
     }
 
 -- what all slots have in common: the parameters, and the leaks of coupling
-abbrev pub paramsBy : Source → Params
-paramsBy s = paramsOf (byteOf (s .common) 0) (byteOf (s .common) 1) (byteOf (s .common) 2) (byteOf (s .common) 3) (byteOf (s .common) 4) (byteOf (s .common) 5)
+abbrev pub paramsBy : ℕ → Params
+paramsBy common = paramsOf (byteOf common 0) (byteOf common 1) (byteOf common 2) (byteOf common 3) (byteOf common 4) (byteOf common 5)
 
-abbrev pub leakBy : ℕ → Source → Leak
-leakBy slot s = cond (eqb slot CPL) (leakOf (byteOf (s .common) 6) (byteOf (s .common) 7)) Absent
+abbrev pub leakBy : ℕ → ℕ → Leak
+leakBy slot common = cond (eqb slot CPL) (leakOf (byteOf common 6) (byteOf common 7)) Absent
 
 -- and the segments
 abbrev pub deltasBy : Source → Deltas
 deltasBy s = record { n = byteOf (s .own) 0 - 1; offset = eightIn (s .offset); len = eightIn (s .len); ba = eightIn (s .ba) }
 
 unfoldable pub allocationBy : ℕ → Source → List ℕ → List ℕ
-allocationBy slot s exps = allocation (kindBy s) exps (channelBy s) (paramsBy s) (leakBy slot s) (deltasBy s)
+allocationBy slot s exps = allocation (kindBy s) exps (channelBy s) (paramsBy (s .common)) (leakBy slot (s .common)) (deltasBy s)
 
 -- at most eight segments, in arrays of eight
 pub record Short (d : Deltas) : Type 0 where
@@ -74,6 +74,11 @@ pub record Short (d : Deltas) : Type 0 where
   pub offset : length (d .offset) ≡ 8
   pub len : length (d .len) ≡ 8
   pub ba : length (d .ba) ≡ 8
+
+-- the leaks that all slots have in common are those of the state
+pub record SameLeaks (common : ℕ) (st : AllocState) : Type 0 where
+  pub fast : byteOf common 6 ≡ st .cplfleak
+  pub slow : byteOf common 7 ≡ st .cplsleak
 
 -- the words say these arguments
 pub record Says (slot : ℕ) (s : Source) (k : Pointers) (c : Channel) (p : Params) (l : Leak) (d : Deltas) : Type 0 where

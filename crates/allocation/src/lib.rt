@@ -12,7 +12,6 @@ use alloc::Pointers;
 use mantissas::tally::shares;
 use slots::CPL;
 use slots::LFE;
-use slots::Range;
 use slots::Shape;
 use slots::hybrid;
 use slots::range_at;
@@ -20,17 +19,16 @@ use slots::requested;
 ghost use mathlib.Core.Path.{_≡_};
 ghost use mathlib.Core.Bool.{_&&_, _||_, not, cond};
 ghost use mathlib.Core.List.{[], _∷_};
-ghost use Prim.Native.Nat.{ℕ, _+_, _*_, _-_, _/_, _%_, _<_, _≤_, min};
+ghost use Prim.Native.Nat.{_+_, _*_, _-_, _/_, _%_, _<_, _≤_, min};
 ghost use lib.Dec.{eqb};
-ghost use lib.ListN.{length, getD, take, drop};
+ghost use lib.ListN.{length, getD};
 ghost use Rattle.alloc.specs.Allocation.{tab, fastOf, slowOf};
 ghost use Rattle.alloc.specs.Premises.{Lent};
 ghost use Rattle.mantissas.specs.Tally.{shareOf};
-ghost use Rattle.slots.specs.Slots.{requestedOf, rangeOf};
 ghost use Rattle.slots.specs.Held.{Held};
-ghost use Rattle.allocation.specs.State.{freshState, eightOf, segmentsOf, offsetsZero, silentOf, channelOf, leakFor, kindOf, paramsFor, pointedOf, pointersOf, pointSlots, allocated, allocatedOf, segmentsBy};
+ghost use Rattle.allocation.specs.State.{freshState, eightOf, segmentsOf, silentOf, channelOf, leakFor, kindOf, paramsFor, pointedOf, pointersOf, pointSlots, allocated, allocatedOf, segmentsBy};
 ghost use Rattle.allocation.specs.Coded.{Coded, silenced};
-ghost use Rattle.allocation.specs.Memo.{Short, Packs, Says, Stale, Passes, Memo};
+ghost use Rattle.allocation.specs.Memo.{Short, Packs, paramsBy, SameLeaks, Says, Stale, Passes, Memo};
 ghost use Rattle.tables.specs.BitAllocation.{fastgain};
 
 pub mod memo; // what is kept of the last allocation of each slot
@@ -263,21 +261,12 @@ fn common_of(q: Codes, fscod: u8, cplfleak: u8, cplsleak: u8) -> u64
 }
 
 // What the pointers of a slot are computed from. Where there are no segments, their words are 0.
-fn source_of(
-    st: AllocState,
-    q: Codes,
-    fscod: u8,
-    shape: Shape,
-    slot: u8,
-    c: Channel,
-    d: Deltas,
-) -> Source
-    requires { ⌜ (slot < 7) × Short d × (c .start < 65536) × (c .end ≤ 253) × (c .fgain ≡ getD fastgain (getD (st .fgaincod) slot 0) 0) ⌝ }
-    ensures { λ r. ⌜ Says slot r (kindOf shape slot) c (paramsFor q fscod) (leakFor st slot) d ⌝ }
+fn source_of(st: AllocState, common: u64, shape: Shape, slot: u8, c: Channel, d: Deltas) -> Source
+    requires { ⌜ (slot < 7) × Short d × (c .start < 65536) × (c .end ≤ 253) × (c .fgain ≡ getD fastgain (getD (st .fgaincod) slot 0) 0) × SameLeaks common st ⌝ }
+    ensures { λ r. ⌜ Says slot r (kindOf shape slot) c (paramsBy common) (leakFor st slot) d ⌝ }
 {
     let i = slot as usize;
     let own = own_of(hybrid(shape, slot), st.fgaincod[i], c, d.n);
-    let common = common_of(q, fscod, st.cplfleak, st.cplsleak);
     if d.n == 0 {
         return Source {
             own: own,
@@ -302,8 +291,7 @@ fn source_of(
 // Whether the pointers of a slot are asked for and are not kept.
 fn stale_at(
     st: AllocState,
-    q: Codes,
-    fscod: u8,
+    common: u64,
     shape: Shape,
     n: &[u8; 6],
     offset: &[u8; 48],
@@ -313,15 +301,15 @@ fn stale_at(
     silent: bool,
     slot: u8,
 ) -> bool
-    requires { ⌜ (length (now memo) ≡ 42) × (slot < 7) × (silent ≡ silentOf st shape) ⌝ }
-    ensures { λ r. ⌜ Stale r st (paramsFor q fscod) shape (segmentsBy (now (n .entry)) (now (offset .entry)) (now (len .entry)) (now (ba .entry))) (now (memo .entry)) slot ⌝ }
+    requires { ⌜ (length (now memo) ≡ 42) × (slot < 7) × (silent ≡ silentOf st shape) × SameLeaks common st ⌝ }
+    ensures { λ r. ⌜ Stale r st (paramsBy common) shape (segmentsBy (now (n .entry)) (now (offset .entry)) (now (len .entry)) (now (ba .entry))) (now (memo .entry)) slot ⌝ }
 {
     if !requested(shape, slot) {
         return false;
     }
     let c = channel(st, shape, slot, silent);
     let d = segments_of(n, offset, len, ba, slot);
-    let s = source_of(st, q, fscod, shape, slot, c, d);
+    let s = source_of(st, common, shape, slot, c, d);
     !kept(memo, slot as usize, s)
 }
 
@@ -334,8 +322,7 @@ fn renew(
     points: &[u8; 1024],
     shares: &[u64; 256],
     st: AllocState,
-    q: Codes,
-    fscod: u8,
+    common: u64,
     shape: Shape,
     n: &[u8; 6],
     offset: &[u8; 48],
@@ -349,15 +336,15 @@ fn renew(
     slot: u8,
 )
     requires { ⌜ (Lent (now latab) (now masktab) (now ends) (now hth) (now points)) × (now shares ≡ tab shareOf 0 256) ⌝ }
-    requires { ⌜ (Held (now exps)) × Memo (now memo) (now exps) (now baps) × (Coded st fscod) × (slot < 7) ⌝ }
-    requires { ⌜ (p ≡ paramsFor q fscod) × (silent ≡ silentOf st shape) ⌝ }
+    requires { ⌜ (Held (now exps)) × Memo (now memo) (now exps) (now baps) × (Coded st (p .fscod)) × (slot < 7) ⌝ }
+    requires { ⌜ (p ≡ paramsBy common) × (silent ≡ silentOf st shape) × SameLeaks common st ⌝ }
     ensures { λ r. ⌜ (now (baps .exit) ≡ pointedOf (now (baps .entry)) slot
         (pointersOf st p shape (segmentsBy (now (n .entry)) (now (offset .entry)) (now (len .entry)) (now (ba .entry))) (now (exps .entry)) slot))
         × Memo (now (memo .exit)) (now (exps .entry)) (now (baps .exit)) ⌝ }
 {
     let c = channel(st, shape, slot, silent);
     let d = segments_of(n, offset, len, ba, slot);
-    let s = source_of(st, q, fscod, shape, slot, c, d);
+    let s = source_of(st, common, shape, slot, c, d);
     let l = leak_for(st, slot);
     let kind = kind_of(shape, slot);
     let a = 256 * (slot as usize);
@@ -383,8 +370,7 @@ fn renew(
 // The first slot whose pointers are asked for and are not kept, or 7.
 fn first_stale(
     st: AllocState,
-    q: Codes,
-    fscod: u8,
+    common: u64,
     shape: Shape,
     n: &[u8; 6],
     offset: &[u8; 48],
@@ -393,12 +379,12 @@ fn first_stale(
     memo: &[u64; 42],
     silent: bool,
 ) -> u8
-    requires { ⌜ (length (now memo) ≡ 42) × (silent ≡ silentOf st shape) ⌝ }
-    ensures { λ r. ⌜ Passes r st (paramsFor q fscod) shape (segmentsBy (now (n .entry)) (now (offset .entry)) (now (len .entry)) (now (ba .entry))) (now (memo .entry)) ⌝ }
+    requires { ⌜ (length (now memo) ≡ 42) × (silent ≡ silentOf st shape) × SameLeaks common st ⌝ }
+    ensures { λ r. ⌜ Passes r st (paramsBy common) shape (segmentsBy (now (n .entry)) (now (offset .entry)) (now (len .entry)) (now (ba .entry))) (now (memo .entry)) ⌝ }
 {
     let mut slot: u8 = 0;
     while slot < 7 {
-        if stale_at(st, q, fscod, shape, n, offset, len, ba, memo, silent, slot) {
+        if stale_at(st, common, shape, n, offset, len, ba, memo, silent, slot) {
             return slot;
         }
         slot += 1;
@@ -411,6 +397,7 @@ fn point_slots(
     st: AllocState,
     q: Codes,
     fscod: u8,
+    common: u64,
     shape: Shape,
     n: &[u8; 6],
     offset: &[u8; 48],
@@ -423,6 +410,7 @@ fn point_slots(
     first: u8,
 )
     requires { ⌜ (Held (now exps)) × (Coded st fscod) × Memo (now memo) (now exps) (now baps) × (silent ≡ silentOf st shape) × (first ≤ 7) ⌝ }
+    requires { ⌜ (paramsBy common ≡ paramsFor q fscod) × SameLeaks common st ⌝ }
     ensures { λ r. ⌜ (now (baps .exit)
         ≡ pointSlots st (paramsFor q fscod) shape (segmentsBy (now (n .entry)) (now (offset .entry)) (now (len .entry)) (now (ba .entry))) (now (exps .entry)) (now (baps .entry)) first (7 - first))
         × Memo (now (memo .exit)) (now (exps .entry)) (now (baps .exit)) ⌝ }
@@ -443,7 +431,7 @@ fn point_slots(
     );
     let mut slot = first;
     while slot < 7 {
-        if stale_at(st, q, fscod, shape, n, offset, len, ba, memo, silent, slot) {
+        if stale_at(st, common, shape, n, offset, len, ba, memo, silent, slot) {
             renew(
                 &latab,
                 &masktab,
@@ -452,8 +440,7 @@ fn point_slots(
                 &points,
                 &shares,
                 st,
-                q,
-                fscod,
+                common,
                 shape,
                 n,
                 offset,
@@ -495,7 +482,8 @@ pub fn allocate_block<'a>(
         return 29;
     };
     let silent = silent(st, shape);
-    let first = first_stale(st, q, fscod, shape, n, offset, len, ba, memo, silent);
+    let common = common_of(q, fscod, st.cplfleak, st.cplsleak);
+    let first = first_stale(st, common, shape, n, offset, len, ba, memo, silent);
     if 7 <= first {
         return 0;
     }
@@ -503,6 +491,7 @@ pub fn allocate_block<'a>(
         st,
         q,
         fscod,
+        common,
         shape,
         n,
         offset,

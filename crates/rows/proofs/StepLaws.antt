@@ -5,7 +5,7 @@ use mathlib.Core.Path.{_≡_, refl, sym, ap, subst, _∙_}
 use mathlib.Core.List.{List}
 use native.Mathlib.Omega.{arith}
 use native.Mathlib.Nat.{mul-le-mul}
-use borrow.Author.Tests.{ne-eqb}
+use borrow.Author.Tests.{ne-eqb, lt-ltb, le-ltb}
 use Rattle.slots.specs.Held.{Bins}
 use Rattle.cells.specs.Cells.{State, state, cellOf, putIn, addr, sum, heldOf, placeOf, sumOf}
 use Rattle.derivations.specs.Acted.{acted}
@@ -86,9 +86,13 @@ fill-ends w m a ea v ev i x e h k = let j : i ≡ manyIn w = omega arith in e �
 
 -- what a row that reads nothing comes to
 module _ (w p : ℕ) (m : List ℕ) (b : Bins) where
-  pub deal-put : w % 16 ≡ 10 → (x : List ℕ) → x ≡ putIn m (placeOf (putAtIn w) m) (amountOf (valueIn w) p m) → Dealt w p (state m b) 0 (state x b)
+  pub deal-put : w % 16 ≡ 10 → w / 16 % 8 < 5 → (x : List ℕ) → x ≡ putIn m (placeOf (putAtIn w) m) (amountOf (valueIn w) p m) → Dealt w p (state m b) 0 (state x b)
   unfolding rowOf stepOf stopIn
-  deal-put h x e = record { is = rw (h, e) refl }
+  deal-put h l x e = record { is = rw (h, lt-ltb _ _ l, e) refl }
+
+  pub deal-fill : w % 16 ≡ 10 → 5 ≤ w / 16 % 8 → (x : List ℕ) → x ≡ filled (manyIn w) (filledIn w) (xIn w + yIn w * heldOf (ofIn w) m) m → Dealt w p (state m b) 0 (state x b)
+  unfolding rowOf stepOf stopIn
+  deal-fill h l x e = record { is = rw (h, le-ltb _ _ l, e) refl }
 
   refused-by : (c y : Bool) (n k : ℕ) → c ≡ y → deals (dealing (cond y n 0) k (state m b)) ≡ deals (dealing (cond c n 0) k (state m b))
   refused-by c y n k e = ap (λ (z : Bool). deals (dealing (cond z n 0) k (state m b))) (sym e)
@@ -108,14 +112,6 @@ module _ (w p : ℕ) (m : List ℕ) (b : Bins) where
     pub dealt-off : (n : ℕ) → Dealt w p (state m b) (cond c n 0) (state m b) → c ≡ false → Dealt w p (state m b) 0 (state m b)
     dealt-off n d h = subst (λ (z : Bool). Dealt w p (state m b) (cond z n 0) (state m b)) h d
 
-  module _ (lo : 10 ≤ w % 16) (hi : w % 16 < 14) (n10 : ¬ (w % 16 ≡ 10)) (n11 : ¬ (w % 16 ≡ 11)) (n13 : ¬ (w % 16 ≡ 13)) where
-    twelve : w % 16 ≡ 12
-    twelve = omega arith
-
-    pub deal-derive : w / 16 % 2 ≡ 0 → (n : ℕ) (st : State) → acted n st ≡ derived (actIn w) (state m b) → Dealt w p (state m b) n st
-    unfolding rowOf stepOf stopIn
-    deal-derive h n st e = record { is = rw (twelve, h, ← e) refl }
-
-    pub deal-fill : ¬ (w / 16 % 2 ≡ 0) → (x : List ℕ) → x ≡ filled (manyIn w) (filledIn w) (xIn w + yIn w * heldOf (ofIn w) m) m → Dealt w p (state m b) 0 (state x b)
-    unfolding rowOf stepOf stopIn
-    deal-fill h x e = record { is = rw (twelve, ne-eqb _ _ h, e) refl }
+  pub deal-derive : w % 16 ≡ 12 → (n : ℕ) (st : State) → acted n st ≡ derived (actIn w) (state m b) → Dealt w p (state m b) n st
+  unfolding rowOf stepOf stopIn
+  deal-derive h n st e = record { is = rw (h, ← e) refl }

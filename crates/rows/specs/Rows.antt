@@ -169,7 +169,7 @@ unfoldable mutual
 --   0 to 2   an element; with counters; for each number of a counter
 --   3, 4     a span, the mantissas (5 to 7 too)
 --   8, 9     a condition; with counters
---   10 to 13 a value; a refusal; a derivation or a fill; a comparison
+--   10 to 13 a value or a fill; a refusal; a derivation; a comparison
 --   14, 15   a loop; a set of exponents
 abbrev pub nameIn : ℕ → ℕ
 nameIn w = w / 16 % 256
@@ -205,13 +205,13 @@ unfoldable pub atIn : ℕ → Addr
 atIn w = cond (eqb (w % 2) 1) (addr (w / 16 % 1024) (w / 16384 % 32) (w / 524288 % 16)) (addr (w / 16 % 1024) 0 0)
 
 abbrev pub rowsIn : ℕ → ℕ
-rowsIn w = w / 8388608 % 1024
+rowsIn w = w / 18014398509481984 % 1024
 
 abbrev pub numberIn : ℕ → ℕ
-numberIn w = w / 8388608 % 256
+numberIn w = w / 18014398509481984 % 256
 
 abbrev pub maskIn : ℕ → ℕ
-maskIn w = w / 281474976710656
+maskIn w = w / 8388608 % 65536
 
 unfoldable pub skipOf : ℕ → List ℕ → ℕ
 skipOf w m = cond (masked (maskIn w) (atIn w) m) 0 (rowsIn w)
@@ -285,9 +285,9 @@ rowOf w =
     cond (ltb (w % 16) 3) (Elements (nameIn w) (indexIn w) (widthIn w) (keepIn w) (counterIn w) (fromIn w) (toIn w))
     (cond (ltb (w % 16) 8) (cond (ltb (w % 16) 4) (Span (nameIn w) (indexIn w) (keepIn w) (regionIn w)) (Mantissas (nameIn w) (indexIn w) (keepIn w)))
     (cond (ltb (w % 16) 10) (When (atIn w) (maskIn w) (rowsIn w))
-    (cond (eqb (w % 16) 10) (Put (putAtIn w) (valueIn w))
+    (cond (eqb (w % 16) 10) (cond (ltb (w / 16 % 8) 5) (Put (putAtIn w) (valueIn w)) (Fill (filledIn w) (manyIn w) (xIn w) (yIn w) (ofIn w)))
     (cond (eqb (w % 16) 11) (Refuse (atIn w) (maskIn w) (numberIn w))
-    (cond (eqb (w % 16) 12) (cond (eqb (w / 16 % 2) 0) (Do (actIn w)) (Fill (filledIn w) (manyIn w) (xIn w) (yIn w) (ofIn w)))
+    (cond (eqb (w % 16) 12) (Do (actIn w))
     (cond (eqb (w % 16) 13) (Compare (relationIn w) (comparedIn w) (withIn w) (failureIn w) (stopIn w))
     (cond (eqb (w % 16) 14) (Each (loopCounter w) (loopFrom w) (loopTo w) (loopRows w))
     (Exponents (slotIn w) (nameIn w) (indexIn w)))))))))

@@ -3,10 +3,10 @@
 //   element    kind 0, name 4 (8 bits), width 12 (5), cell 17 (10), by 27 (5), row 32 (4), index 36 (3), index cell 39 (5), to 44 (10), from 54 (1), counter 55 (5)
 //   span       the same, with the cell of the width at 44; the mantissas: the same
 //   exponents  kind, name, index and index cell as an element; slot 12 (3), slot cell 15 (5)
-//   when       kind 0, cell 4 (10), by 14 (5), row 19 (4), rows 23 (10), mask 48 (16); a refusal: the same, with its number at 23 (8)
+//   when       kind 0, cell 4 (10), by 14 (5), row 19 (4), mask 23 (16), rows 54 (10); a refusal: the same, with its number at 54 (8)
 //   compare    kind 0, relation 5 (2), cell 7 (10), by 17 (5), number 22 (6), place 28 (10), form 38 (1), word 39 (16), or cell 39 (10) and by 49 (5)
 //   put        kind 0, form 4 (3), cell 7 (10), by 17 (5), row 22 (4), of 26 (10), of by 36 (5), x 41 (8), y 49 (5), or second cell 41 (10)
-//   fill       kind 0, 1 at 4, cell 7 (10), many 22 (4), of, of by, x, y as put
+//   fill       as put, with form 5, and many 22 (4) in place of the row
 //   derive     kind 0, derivation 5 (8)
 //   each       kind 0, form 4 (3), counter 7 (5), to 12 (10), by 22 (5), row 27 (4), first 31 (5), first cell 36 (10), rows 46 (10)
 //

@@ -3,16 +3,14 @@ ghost use mathlib.Core.Path.{_≡_};
 ghost use mathlib.Core.Bool.{cond};
 ghost use Prim.Native.Nat.{_+_, _-_, _*_, _/_, _%_, _≤_, _<_, min};
 ghost use lib.Dec.{eqb};
-ghost use Rattle.slots.specs.Held.{bins, Held};
-ghost use Rattle.allocation.specs.Memo.{Memo};
+ghost use Rattle.slots.specs.Held.{Bins};
 ghost use Rattle.cells.specs.Cells.{state, cellOf, placeOf, heldOf, putIn};
 ghost use Rattle.rows.specs.Syntax.{amountOf, numberOf, countOf, filled};
-ghost use Rattle.rows.specs.Rows.{atIn, maskIn, masked, putAtIn, ofIn, valueIn, filledIn, manyIn, xIn, yIn, relationIn, comparedIn, withIn, compares, stopIn, loopTo, loopIn, skipOf, toIn, fromIn, counterIn};
+ghost use Rattle.rows.specs.Rows.{atIn, maskIn, masked, putAtIn, ofIn, valueIn, filledIn, manyIn, xIn, yIn, relationIn, comparedIn, withIn, compares, stopIn, loopTo, loopIn, rowsIn, toIn, fromIn, counterIn};
 ghost use Rattle.rows.specs.Steps.{Dealt};
 use crate::fields::spot;
 use cells::cell_of;
 use cells::put;
-use derivations::derive;
 
 // A cell's value, and 15 for all above.
 fn capped(v: u16) -> u64
@@ -38,22 +36,18 @@ fn tested(w: u64, cells: &[u16; 1024]) -> usize
 }
 
 // Whether the mask of a row has the value of its cell.
-fn holds(w: u64, cells: &[u16; 1024]) -> bool
+pub fn holds(w: u64, cells: &[u16; 1024]) -> bool
     ensures { λ r. ⌜ r ≡ masked (maskIn w) (atIn w) (now (cells .entry)) ⌝ }
 {
     let v = capped(cell_of(cells, tested(w, cells)));
-    (w / 281474976710656 >> v) % 2 == 1
+    (w / 8388608 % 65536 >> v) % 2 == 1
 }
 
-// How many rows a condition passes.
-pub fn skip(w: u64, cells: &[u16; 1024]) -> usize
-    ensures { λ r. ⌜ (r ≡ skipOf w (now (cells .entry))) × (r < 1024) ⌝ }
+// How many rows a condition passes that fails.
+pub fn rows_of(w: u64) -> usize
+    ensures { λ r. ⌜ (r ≡ rowsIn w) × (r < 1024) ⌝ }
 {
-    if holds(w, cells) {
-        0
-    } else {
-        (w / 8388608 % 1024) as usize
-    }
+    (w / 18014398509481984 % 1024) as usize
 }
 
 // The number that a value is made of, and those that a fill and a comparison have.
@@ -179,39 +173,29 @@ fn compared(w: u64, cells: &[u16; 1024]) -> bool
     related(w, cell_of(cells, k), other(w, cells))
 }
 
-// A value, a refusal, a derivation, a fill or a comparison: 0, or a refusal's number.
-pub fn deal(
-    w: u64,
-    at: u16,
-    cells: &mut [u16; 1024],
-    exps: &[u8; 1792],
-    baps: &mut [u8; 1792],
-    memo: &mut [u64; 42],
-) -> u8
-    requires { ⌜ (Held (now exps)) × (Memo (now memo) (now exps) (now baps)) × (10 ≤ w % 16) × (w % 16 < 14) ⌝ }
-    ensures { λ r. ⌜ (Dealt w at (state (now (cells .entry)) (bins (now (exps .entry)) (now (baps .entry)))) r (state (now (cells .exit)) (bins (now (exps .entry)) (now (baps .exit))))) × (Memo (now (memo .exit)) (now (exps .entry)) (now (baps .exit))) ⌝ }
+// A value, a fill, a refusal or a comparison: 0, or a refusal's number.
+pub fn deal(w: u64, at: u16, cells: &mut [u16; 1024]) -> u8
+    requires { ⌜ (10 ≤ w % 16) × (w % 16 < 14) × (¬ (w % 16 ≡ 12)) ⌝ }
+    ensures { λ r. ⌜ ((b : Bins) → Dealt w at (state (now (cells .entry)) b) r (state (now (cells .exit)) b)) ⌝ }
 {
     let kind = w % 16;
     if kind == 10 {
-        set(w, at, cells);
+        if w / 16 % 8 < 5 {
+            set(w, at, cells);
+            return 0;
+        }
+        fill(w, cells);
         return 0;
     }
     if kind == 11 {
         if holds(w, cells) {
-            return (w / 8388608 % 256) as u8;
+            return (w / 18014398509481984 % 256) as u8;
         }
         return 0;
     }
-    if kind == 13 {
-        if compared(w, cells) {
-            return (w / 4194304 % 64) as u8;
-        }
-        return 0;
+    if compared(w, cells) {
+        return (w / 4194304 % 64) as u8;
     }
-    if w / 16 % 2 == 0 {
-        return derive((w / 32 % 256) as u8, cells, exps, baps, memo);
-    }
-    fill(w, cells);
     0
 }
 

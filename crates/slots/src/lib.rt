@@ -95,7 +95,8 @@ pub fn requested(shape: Shape, slot: u8) -> bool
     requires { ⌜ slot < 7 ⌝ }
     ensures { λ r. ⌜ r ≡ requestedOf shape slot ⌝ }
 {
-    let a = used(shape, slot);
-    let b = read(shape, slot);
-    a && !b
+    if !used(shape, slot) {
+        return false;
+    }
+    !read(shape, slot)
 }

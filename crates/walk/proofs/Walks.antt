@@ -1,5 +1,5 @@
 -- The loop over the rows and the loop over the turns: their invariants, and how each way of a turn keeps them. Assumes nothing.
-use Prim.Native.Nat.{ℕ, zero, suc, _+_, _-_, _*_, _%_, _≤_, _<_}
+use Prim.Native.Nat.{ℕ, zero, suc, _+_, _-_, _*_, _/_, _%_, _≤_, _<_}
 use mathlib.Core.Bool.{Bool, true, false, cond}
 use mathlib.Core.Path.{_≡_, refl, sym, ap, subst, fun-ext, _∙_}
 use mathlib.Core.List.{List}
@@ -335,10 +335,10 @@ module _ (s : List ℕ) (l : ℕ) (t : List ℕ) (from to p₀ q₀ : ℕ) (st�
               ran-off s l (inner w st) (meaning (f .0)) p q m d su mu (gathers .is) e ∙ sym (a .2 ∙ ap (λ (y : Tree State). exec s l y p q m) (f .2))
 
         -- a condition
-        pub rows-when : 8 ≤ w % 16 % 15 → w % 16 < 10 → (k : ℕ) → k ≡ skipOf w (st .cells) → (b₀ : Block) → Stands t b₀ from to → RowsInv s l t from to p₀ q₀ st₀ m₀ p q st m mem (pc + (1 + k)) left last
+        pub rows-when : w % 16 / 2 ≡ 4 → (k : ℕ) → k ≡ skipOf w (st .cells) → (b₀ : Block) → Stands t b₀ from to → RowsInv s l t from to p₀ q₀ st₀ m₀ p q st m mem (pc + (1 + k)) left last
         unfolding rowOf stepOf skipOf
-        rows-when lo hi k ek b₀ h₀ =
-            let e : stepOf (rowOf w) p st ≡ go k = (rw (le-ltb (w % 16) 3 (omega arith), le-ltb (w % 16) 8 (omega arith), lt-ltb _ _ hi) (ap go (sym ek))) in
+        rows-when is k ek b₀ h₀ =
+            let e : stepOf (rowOf w) p st ≡ go k = (rw (le-ltb (w % 16) 3 (omega arith), le-ltb (w % 16) 8 (omega arith), lt-ltb (w % 16) 10 (omega arith)) (ap go (sym ek))) in
             let f = follows (go k) e (rest-at b₀ h₀ .0) (rest-at b₀ h₀ .1) in
             onto p q st m mem (pc + (1 + k)) (same-refl m) (inv .right) (omega arith) (omega (arith, f .1 .ends)) (λ b h.
             let a = rest-at b h in
@@ -346,7 +346,7 @@ module _ (s : List ℕ) (l : ℕ) (t : List ℕ) (from to p₀ q₀ : ℕ) (st�
             let z : pc + 1 + k ≡ pc + (1 + k) = omega arith in
             (g .0, subst (λ (x : ℕ). Stands t (g .0) x to) z (g .1), a .2 ∙ ap (λ (y : Tree State). exec s l y p q m) (g .2)))
 
-        -- a value, a refusal, a derivation, a fill or a comparison
+        -- a value, a fill, a refusal, a derivation or a comparison
         module _ (k : ℕ) (su : State) (memu : List ℕ) (dealt : Dealt w p st k su) (hr : Right memu (su .bins)) where
           pub rows-deal : k ≡ 0 → RowsInv s l t from to p₀ q₀ st₀ m₀ p q su m memu (pc + 1) left last
           unfolding _>>=_

@@ -6,15 +6,17 @@ ghost use Rattle.cells.specs.Cells.{state};
 ghost use Rattle.walk.specs.Stands.{Stand, Turned};
 use bits::BitPlace;
 use cells::put;
+use derivations::derive;
 use rows::inputs::gather;
 use rows::inputs::take;
 use rows::steps::deal;
+use rows::steps::holds;
 use rows::steps::last_of;
 use rows::steps::loop_of;
 use rows::steps::mark;
 use rows::steps::more_of;
 use rows::steps::onward;
-use rows::steps::skip;
+use rows::steps::rows_of;
 use rows::steps::stop_at;
 use syntax::Cursor;
 use syntax::going;
@@ -59,7 +61,14 @@ pub fn each(
         while pc < to {
             let w = table[pc];
             let kind = w % 16;
-            if kind < 4 {
+            if kind / 2 == 4 {
+                // a condition, 8 or 9
+                if holds(w, cells) {
+                    pc += 1;
+                } else {
+                    pc += 1 + rows_of(w);
+                }
+            } else if kind < 4 {
                 last = last_of(w, left, last, cells);
                 let more = more_of(w, left, last);
                 if more == 0 {
@@ -115,10 +124,14 @@ pub fn each(
                 at = c.at.0;
                 count = c.count;
                 pc += 1;
-            } else if kind < 10 {
-                pc += 1 + skip(w, cells);
+            } else if kind == 12 {
+                let number = derive((w / 32 % 256) as u8, cells, exps, baps, memo);
+                if number != 0 {
+                    return halted(BitPlace(at), count, number);
+                }
+                pc += 1;
             } else if kind < 14 {
-                let number = deal(w, at, cells, exps, baps, memo);
+                let number = deal(w, at, cells);
                 if number != 0 {
                     return halted(BitPlace(stop_at(w, at, cells)), count, number);
                 }

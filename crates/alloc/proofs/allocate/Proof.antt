@@ -1,19 +1,17 @@
-use mathlib.Core.Path.{_≡_, refl}
+use mathlib.Core.Path.{_≡_, refl, _∙_}
 use native.Mathlib.Omega.{arith}
 use Prim.Native.Nat.{_-_}
-use Rattle.alloc.specs.Allocation.{pointer, allocation}
 use Rattle.alloc.proofs.Carry.{levels-are}
-use Rattle.alloc.proofs.Lists.{written-empty}
+use Rattle.alloc.proofs.Edges.{none-allocated}
 use borrow.Author.Needs.{needs}
 use Rattle.alloc.proofs.allocate.Statement.{statement}
 use Rattle.alloc.proofs.allocate.Tie as tie
 
 returns : tie.Need-returns
-unfolding allocation
 returns c =
     let a = c .before .before .before .before .before .before .before .args in
     let z : a .c .end - a .c .start ≡ 0 = omega (arith, c .before .before .before .before .if1 .taken) in
-    (written-empty (pointer (a .kind) (a .exps .now) (a .c) (a .p) (a .l) (a .d)) (a .c .start) (a .c .end) 256 _ _ (c .before .before .before .before .before .before .before .pre .1 .0 .1) (c .before .before .before .before .if1 .taken) (c .before .before .clear .ensures), rw z refl)
+    (c .before .before .no-bins .ensures ∙ none-allocated (a .kind) (a .exps .now) (a .c) (a .p) (a .l) (a .d) (c .before .before .before .before .if1 .taken), rw z refl)
 
 allocate-some-requires : tie.Need-allocate-some-requires
 allocate-some-requires c κs =

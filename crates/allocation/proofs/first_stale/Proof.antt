@@ -1,17 +1,17 @@
 use native.Mathlib.Omega.{arith}
 use Prim.Native.Nat.{_-_}
-use Rattle.allocation.specs.State.{paramsFor, segmentsBy}
-use Rattle.allocation.specs.Memo.{Passes}
+use Rattle.allocation.specs.State.{segmentsBy}
+use Rattle.allocation.specs.Memo.{paramsBy, Passes}
 use Rattle.allocation.proofs.MemoLaws.{passes-none, passes-on}
 use borrow.Author.Needs.{needs}
 use Rattle.allocation.proofs.first_stale.Statement.{statement}
 use Rattle.allocation.proofs.first_stale.Tie as tie
 
 abbrev Inv-loop : tie.InvT-loop
-Inv-loop st q fscod shape n offset len ba memo silent slot₀ slot = Passes slot st (paramsFor q fscod) shape (segmentsBy n offset len ba) memo
+Inv-loop st common shape n offset len ba memo silent slot₀ slot = Passes slot st (paramsBy common) shape (segmentsBy n offset len ba) memo
 
 abbrev μ-loop : tie.MeasureT-loop
-μ-loop st q fscod shape n offset len ba memo silent slot₀ slot = 7 - slot
+μ-loop st common shape n offset len ba memo silent slot₀ slot = 7 - slot
 
 loop-holds : tie.Need-loop-holds Inv-loop μ-loop
 loop-holds c = passes-none _ _ _ _ _

@@ -1,5 +1,4 @@
 use native.Mathlib.Omega.{arith}
-use mathlib.Core.Path.{_≡_}
 use Rattle.alloc.proofs.Codes.{codes-tuned}
 use Rattle.mantissas.proofs.TallyLaws.{shares-small}
 use Rattle.allocation.proofs.StateLaws.{exps-part, part-sized}
@@ -12,7 +11,7 @@ channel-requires : tie.Need-channel-requires
 channel-requires c κs = c .before .before .pre .1 .0 .3
 
 source-of-requires : tie.Need-source-of-requires
-source-of-requires c κs = (c .before .before .before .before .pre .1 .0 .3, c .segments-of .ensures .1, c .before .channel .ensures .3, c .before .channel .ensures .1, c .before .channel .ensures .4)
+source-of-requires c κs = (c .before .before .before .before .pre .1 .0 .3, c .segments-of .ensures .1, c .before .channel .ensures .3, c .before .channel .ensures .1, c .before .channel .ensures .4, c .before .before .before .before .pre .1 .1 .2)
 
 leak-for-requires : tie.Need-leak-for-requires
 leak-for-requires c κs = (c .before .before .before .before .before .pre .1 .0 .2 .fast, c .before .before .before .before .before .pre .1 .0 .2 .slow)
@@ -31,7 +30,7 @@ allocate-requires c κs =
     let pre = c .before .before .before .before .before .before .before .before .before .pre in
     let o = c .before .before .before .before .before .before .channel .ensures in
     let l = c .before .before .before .leak-for .ensures in
-    (pre .0 .0, ((exps-part _ _ (pre .1 .0 .0) (pre .1 .0 .3) _ _ (o .1), part-sized _ _ (pre .1 .0 .1 .tallies .sized) (pre .1 .0 .3)), ((record { within = o .1; fgain = o .2; fast = l .1; slow = l .2; segs = c .before .before .before .before .before .segments-of .ensures .1 .few }, rw (pre .1 .1 .0) (codes-tuned _ _ _ _ _ _ (pre .1 .0 .2 .rate))), rw (pre .0 .1) shares-small)))
+    (pre .0 .0, ((exps-part _ _ (pre .1 .0 .0) (pre .1 .0 .3) _ _ (o .1), part-sized _ _ (pre .1 .0 .1 .tallies .sized) (pre .1 .0 .3)), ((record { within = o .1; fgain = o .2; fast = l .1; slow = l .2; segs = c .before .before .before .before .before .segments-of .ensures .1 .few }, rw (pre .1 .1 .0) (codes-tuned _ _ _ _ _ _ (rw (pre .1 .1 .0) at (pre .1 .0 .2 .rate)))), rw (pre .0 .1) shares-small)))
 
 note-requires : tie.Need-note-requires
 note-requires c κs = (c .before .before .before .before .before .before .before .before .before .before .before .before .before .pre .1 .0 .1 .tallies .size, c .before .before .before .before .before .before .before .before .before .before .before .before .before .pre .1 .0 .3)

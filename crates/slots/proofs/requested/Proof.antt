@@ -1,4 +1,5 @@
-use mathlib.Core.Path.{_≡_, refl, sym}
+use mathlib.Core.Path.{sym, _∙_}
+use borrow.Author.Tests.{not-true, not-false}
 use Rattle.slots.specs.Slots.{requestedOf}
 use borrow.Author.Needs.{needs}
 use Rattle.slots.proofs.requested.Statement.{statement}
@@ -6,11 +7,11 @@ use Rattle.slots.proofs.requested.Tie as tie
 
 returns : tie.Need-returns
 unfolding requestedOf
-returns c = rw (← c .before .before .used .ensures, c .if1 .taken, ← c .before .read .ensures)
+returns c = rw (sym (c .before .used .ensures) ∙ not-true _ (c .if1 .taken))
 
 returns-2 : tie.Need-returns-2
 unfolding requestedOf
-returns-2 c = rw (← c .before .before .used .ensures, c .if1 .left)
+returns-2 c = rw (sym (c .before .before .used .ensures) ∙ not-false _ (c .before .if1 .left), c .read .ensures)
 
 pub requested-spec : {M : Type 1} → statement M
-requested-spec = tie.close (tie.spec (λ c κs. search needs) (λ c κs. search needs) returns returns-2)
+requested-spec = tie.close (tie.spec (λ c κs. search needs) returns (λ c κs. search needs) returns-2)
