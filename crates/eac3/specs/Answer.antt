@@ -2,7 +2,7 @@
 use mathlib.Core.Path.{_≡_}
 use mathlib.Core.Bool.{true, false, cond}
 use mathlib.Core.List.{List}
-use Prim.Native.Nat.{ℕ, _*_, _/_}
+use Prim.Native.Nat.{ℕ, _+_, _*_, _/_}
 use lib.ListN.{replicate}
 use Rattle.reading.specs.Frame.{parse}
 use Rattle.reading.specs.Run.{Result, accepted, refused}
@@ -12,7 +12,9 @@ use Rattle.syntax.specs.declared.Cursor.{Cursor}
 use Rattle.cells.specs.Cells.{State, cellOf}
 use Rattle.cells.specs.Names.{ACMOD, AHT-TAGS, AHTINU, AUDIO-END, BLOCK-STARTS, BSID, CPL-BLOCKS, FSCOD, LFEON, MANTISSA-STARTS, NUMBLKS, SPX-BLOCKS, STRMTYP, SUBSTREAMID}
 use Rattle.derivations.specs.Blocks.{flagOf}
-use Rattle.derivations.specs.Shapes.{flagsOf, valuesOf}
+use Rattle.bits.specs.declared.BitPlace.{BitPlace}
+use Rattle.derivations.specs.Steps.{tabOf}
+use Rattle.derivations.specs.Shapes.{flagsOf}
 use Rattle.annex.specs.Frame.{eac3}
 use Rattle.eac3.specs.declared.answer.Frame.{Frame}
 use Rattle.eac3.specs.declared.answer.Answer.{Answer}
@@ -22,6 +24,13 @@ use Rattle.eac3.specs.declared.answer.Verdict.the-variants.{Accepted, Re
 -- a buffer read with a room for records: the definition's outcome, cut at the room
 abbrev pub answered : List ℕ → Room → Out State
 answered s m = into 0 m (cut (size m) (parse eac3 s))
+
+-- a place in a frame, in bits from its first one; and n places, from the cell k on
+abbrev pub placeAt : ℕ → BitPlace
+placeAt p = record { 0 = p }
+
+abbrev pub placesOf : List ℕ → ℕ → ℕ → List BitPlace
+placesOf m k n = tabOf (λ i. placeAt (cellOf m (k + i))) 0 n
 
 -- what the cells tell of an accepted frame that ends at the place p, with n records
 abbrev pub frameOf : List ℕ → ℕ → ℕ → Frame
@@ -35,9 +44,9 @@ frameOf m p n = record {
   strmtyp = cellOf m STRMTYP;
   substreamid = cellOf m SUBSTREAMID;
   numblks = cellOf m NUMBLKS;
-  «block_starts» = valuesOf m BLOCK-STARTS 6;
-  «mantissa_starts» = valuesOf m MANTISSA-STARTS 6;
-  «audio_end» = record { 0 = cellOf m AUDIO-END };
+  «block_starts» = placesOf m BLOCK-STARTS 6;
+  «mantissa_starts» = placesOf m MANTISSA-STARTS 6;
+  «audio_end» = placeAt (cellOf m AUDIO-END);
   «aht_tags» = cellOf m AHT-TAGS;
   «aht_slots» = flagsOf m AHTINU 7;
   «spx_blocks» = cellOf m SPX-BLOCKS;
@@ -56,9 +65,9 @@ nothing = record {
   strmtyp = 0;
   substreamid = 0;
   numblks = 0;
-  «block_starts» = replicate 6 0;
-  «mantissa_starts» = replicate 6 0;
-  «audio_end» = record { 0 = 0 };
+  «block_starts» = replicate 6 (placeAt 0);
+  «mantissa_starts» = replicate 6 (placeAt 0);
+  «audio_end» = placeAt 0;
   «aht_tags» = 0;
   «aht_slots» = replicate 7 false;
   «spx_blocks» = 0;
@@ -67,7 +76,7 @@ nothing = record {
 
 abbrev pub answerBy : Result State → ℕ → ℕ → Answer
 answerBy (accepted st) p n = record { verdict = Accepted; frame = frameOf (st .cells) p n }
-answerBy (refused k) p n = record { verdict = Refused k p n; frame = nothing }
+answerBy (refused k) p n = record { verdict = Refused k (placeAt p) n; frame = nothing }
 
 -- the answer of an outcome
 unfoldable pub answerOf : Out State → Answer
@@ -80,7 +89,7 @@ pub record Called (s : List ℕ) (m : Room) (a : Answer) (m′ : Room) : Type 0 
 
 -- the answer of a cursor that is stopped, which needs no cells; the answer of any
 abbrev pub refusalFrom : Cursor → Answer
-refusalFrom c = record { verdict = Refused (c .number) (c .at .0) (c .count); frame = nothing }
+refusalFrom c = record { verdict = Refused (c .number) (c .at) (c .count); frame = nothing }
 
 abbrev pub answerFrom : Cursor → List ℕ → Answer
 answerFrom c m = cond (c .stopped) (refusalFrom c) (record { verdict = Accepted; frame = frameOf m (c .at .0) (c .count) })
@@ -95,7 +104,7 @@ numberOf a = numberBy (a .verdict)
 
 abbrev pub placeBy : Verdict → Frame → ℕ
 placeBy Accepted f = 8 * f .bytes .0
-placeBy (Refused k p n) f = p
+placeBy (Refused k p n) f = p .0
 
 abbrev pub placeOf : Answer → ℕ
 placeOf a = placeBy (a .verdict) (a .frame)

@@ -1,19 +1,19 @@
 // What the entry answers: an accepted frame, or one numbered refusal.
 ghost use mathlib.Core.Path.{_≡_};
-ghost use Rattle.eac3.specs.Answer.{nothing, frameOf, answerOf, refusalFrom, answerFrom};
+ghost use Prim.Native.Nat.{_≤_, _<_};
+ghost use Rattle.eac3.specs.Answer.{nothing, placesOf, frameOf, refusalFrom, answerFrom, numberBy, placeBy, countBy};
 use bits::BitPlace;
 use bits::ByteCount;
 use cells::cell_of;
 use cells::numbers as c;
 use derivations::flags::flag;
 use derivations::shapes::seven_flags;
-use derivations::shapes::six_values;
 use syntax::Cursor;
 
 // An accepted frame, or the refusal's number, its bit place, and the records that were written.
 pub enum Verdict {
     Accepted,
-    Refused(u8, u16, usize),
+    Refused(u8, BitPlace, usize),
 }
 
 // What a frame says of itself. The starts of blocks that it has not are 0; after a refusal all is 0 or no.
@@ -27,8 +27,8 @@ pub struct Frame {
     pub strmtyp: u16,
     pub substreamid: u16,
     pub numblks: u16,
-    pub block_starts: [u16; 6],
-    pub mantissa_starts: [u16; 6],
+    pub block_starts: [BitPlace; 6],
+    pub mantissa_starts: [BitPlace; 6],
     pub audio_end: BitPlace,
     pub aht_tags: u16,
     pub aht_slots: [bool; 7],
@@ -55,14 +55,29 @@ fn none() -> Frame
         strmtyp: 0,
         substreamid: 0,
         numblks: 0,
-        block_starts: [0; 6],
-        mantissa_starts: [0; 6],
+        block_starts: [BitPlace(0); 6],
+        mantissa_starts: [BitPlace(0); 6],
         audio_end: BitPlace(0),
         aht_tags: 0,
         aht_slots: [false; 7],
         spx_blocks: 0,
         cpl_blocks: 0,
     }
+}
+
+// Six places, from the cell k on.
+fn six_places(cells: &[u16; 1024], k: usize) -> [BitPlace; 6]
+    requires { ⌜ k ≤ 1024 ⌝ }
+    ensures { λ r. ⌜ r ≡ placesOf (now (cells .entry)) k 6 ⌝ }
+{
+    [
+        BitPlace(cell_of(cells, k)),
+        BitPlace(cell_of(cells, k + 1)),
+        BitPlace(cell_of(cells, k + 2)),
+        BitPlace(cell_of(cells, k + 3)),
+        BitPlace(cell_of(cells, k + 4)),
+        BitPlace(cell_of(cells, k + 5)),
+    ]
 }
 
 // What the cells tell of an accepted frame that ends at a place.
@@ -77,8 +92,8 @@ fn frame_of(cells: &[u16; 1024], at: BitPlace, count: usize) -> Frame
     let strmtyp = cell_of(cells, c::STRMTYP);
     let substreamid = cell_of(cells, c::SUBSTREAMID);
     let numblks = cell_of(cells, c::NUMBLKS);
-    let block_starts = six_values(cells, c::BLOCK_STARTS);
-    let mantissa_starts = six_values(cells, c::MANTISSA_STARTS);
+    let block_starts = six_places(cells, c::BLOCK_STARTS);
+    let mantissa_starts = six_places(cells, c::MANTISSA_STARTS);
     let audio_end = cell_of(cells, c::AUDIO_END);
     let aht_tags = cell_of(cells, c::AHT_TAGS);
     let aht_slots = seven_flags(cells, c::AHTINU);
@@ -108,8 +123,9 @@ fn frame_of(cells: &[u16; 1024], at: BitPlace, count: usize) -> Frame
 pub fn refusal(cur: Cursor) -> Answer
     ensures { λ r. ⌜ r ≡ refusalFrom cur ⌝ }
 {
+    let at = cur.at;
     Answer {
-        verdict: Verdict::Refused(cur.number, cur.at.0, cur.count),
+        verdict: Verdict::Refused(cur.number, at, cur.count),
         frame: none(),
     }
 }
@@ -124,5 +140,41 @@ pub fn answer_of(cur: Cursor, cells: &[u16; 1024]) -> Answer
     Answer {
         verdict: Verdict::Accepted,
         frame: frame_of(cells, cur.at, cur.count),
+    }
+}
+
+fn wide(x: u16) -> u32
+    ensures { λ r. ⌜ (r ≡ x) × (r < 65536) ⌝ }
+{
+    x as u32
+}
+
+// The number of an answer, 0 for an accepted frame.
+pub fn number_of(v: Verdict) -> u8
+    ensures { λ r. ⌜ r ≡ numberBy v ⌝ }
+{
+    match v {
+        Verdict::Accepted => 0,
+        Verdict::Refused(number, _, _) => number,
+    }
+}
+
+// Its place, that of an accepted frame its end.
+pub fn place_of(v: Verdict, f: Frame) -> u32
+    ensures { λ r. ⌜ r ≡ placeBy v f ⌝ }
+{
+    match v {
+        Verdict::Accepted => 8 * wide(f.bytes.0),
+        Verdict::Refused(_, place, _) => wide(place.0),
+    }
+}
+
+// How many records were written.
+pub fn count_of(v: Verdict, f: Frame) -> usize
+    ensures { λ r. ⌜ r ≡ countBy v f ⌝ }
+{
+    match v {
+        Verdict::Accepted => f.fields,
+        Verdict::Refused(_, _, count) => count,
     }
 }

@@ -5,8 +5,8 @@ use Prim.Native.Nat.{ℕ, _+_}
 use native.Mathlib.Numerals.{add-one}
 use lib.ListN.{getD, set}
 use Rattle.eac3.specs.declared.answer.Answer.{Answer}
-use Rattle.eac3_c.specs.Numbers.{framed, laid, laidOf, placeOf, countOf, frameNumbers}
-use Rattle.eac3.specs.Answer.{numberBy}
+use Rattle.eac3_c.specs.Numbers.{framed, laid, laidOf, frameNumbers}
+use Rattle.eac3.specs.Answer.{numberOf, placeOf, countOf}
 
 pub framed-none : (m vs : List ℕ) → m ≡ framed m vs 0
 unfolding framed
@@ -24,5 +24,5 @@ pub also : {x y : ℕ} {xs ys : List ℕ} → x ≡ y → xs ≡ ys → (x ∷ x
 also e es = ap₂ _∷_ e es
 
 -- numbers written, and what they are of an answer a, which is the answer A of a definition
-pub laid-are : (m x vs : List ℕ) (n p k : ℕ) {a A : Answer} → x ≡ laid m n p k vs → n ≡ numberBy (a .verdict) → p ≡ placeOf (a .verdict) (a .frame .bytes .0) → k ≡ countOf (a .verdict) (a .frame .fields) → vs ≡ frameNumbers (a .frame) → a ≡ A → x ≡ laidOf m A
+pub laid-are : (m x vs : List ℕ) (n p k : ℕ) {a A : Answer} → x ≡ laid m n p k vs → n ≡ numberOf a → p ≡ placeOf a → k ≡ countOf a → vs ≡ frameNumbers (a .frame) → a ≡ A → x ≡ laidOf m A
 laid-are m x vs n p k e f g h i j = e ∙ rw f (rw g (rw h (rw i (ap (laidOf m) j))))

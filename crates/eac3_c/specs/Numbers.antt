@@ -2,29 +2,22 @@
 use mathlib.Core.Path.{_≡_}
 use mathlib.Core.Bool.{Bool, true, false}
 use mathlib.Core.List.{List, [], _∷_}
-use Prim.Native.Nat.{ℕ, zero, suc, _+_, _*_}
+use Prim.Native.Nat.{ℕ, zero, suc, _+_}
 use lib.ListN.{getD, set}
 use Rattle.reading.specs.Room.{Room, Out}
 use Rattle.cells.specs.Cells.{State}
-use Rattle.eac3.specs.Answer.{answerOf, numberOf, numberBy}
+use Rattle.bits.specs.declared.BitPlace.{BitPlace}
+use Rattle.eac3.specs.Answer.{placeAt, answerOf, numberOf, placeOf, countOf}
 use Rattle.eac3.specs.declared.answer.Answer.{Answer}
 use Rattle.eac3.specs.declared.answer.Frame.{Frame}
-use Rattle.eac3.specs.declared.answer.Verdict.{Verdict}
-use Rattle.eac3.specs.declared.answer.Verdict.the-variants.{Accepted, Refused}
 
 abbrev pub bitOf : Bool → ℕ
 bitOf true = 1
 bitOf false = 0
 
--- the place of a refusal, or the end of a frame of so many bytes
-abbrev pub placeOf : Verdict → ℕ → ℕ
-placeOf Accepted bytes = 8 * bytes
-placeOf (Refused k p n) bytes = p
-
--- the records that were written
-abbrev pub countOf : Verdict → ℕ → ℕ
-countOf Accepted fields = fields
-countOf (Refused k p n) fields = n
+-- one of a frame's starts, in bits
+abbrev startAt : List BitPlace → ℕ → ℕ
+startAt ps i = getD ps i (placeAt 0) .0
 
 -- bytes, bsid, acmod, lfeon, fscod, strmtyp, substreamid, numblks; six starts of blocks, six of mantissas; the end of the audio, tags, seven slots,
 -- blocks with spectral extension, blocks with coupling
@@ -41,18 +34,18 @@ frameNumbers f =
     ∷ f .strmtyp
     ∷ f .substreamid
     ∷ f .numblks
-    ∷ getD b 0 0
-    ∷ getD b 1 0
-    ∷ getD b 2 0
-    ∷ getD b 3 0
-    ∷ getD b 4 0
-    ∷ getD b 5 0
-    ∷ getD m 0 0
-    ∷ getD m 1 0
-    ∷ getD m 2 0
-    ∷ getD m 3 0
-    ∷ getD m 4 0
-    ∷ getD m 5 0
+    ∷ startAt b 0
+    ∷ startAt b 1
+    ∷ startAt b 2
+    ∷ startAt b 3
+    ∷ startAt b 4
+    ∷ startAt b 5
+    ∷ startAt m 0
+    ∷ startAt m 1
+    ∷ startAt m 2
+    ∷ startAt m 3
+    ∷ startAt m 4
+    ∷ startAt m 5
     ∷ f .«audio_end» .0
     ∷ f .«aht_tags»
     ∷ bitOf (getD s 0 false)
@@ -76,7 +69,7 @@ unfoldable pub laid : List ℕ → ℕ → ℕ → ℕ → List ℕ → List ℕ
 laid m number place count frame = framed (set (set (set m 0 number) 1 place) 2 count) frame 31
 
 abbrev pub laidOf : List ℕ → Answer → List ℕ
-laidOf m a = laid m (numberBy (a .verdict)) (placeOf (a .verdict) (a .frame .bytes .0)) (countOf (a .verdict) (a .frame .fields)) (frameNumbers (a .frame))
+laidOf m a = laid m (numberOf a) (placeOf a) (countOf a) (frameNumbers (a .frame))
 
 -- what the function tells: the number, the room as the reading left it, and the answer
 pub record Given (o : Out State) (r : ℕ) (m : Room) (before after : List ℕ) : Type 0 where

@@ -1,12 +1,12 @@
 // The reader for hosts outside: one C function over slices and numbers.
 ghost use mathlib.Core.Path.{_≡_};
-ghost use Prim.Native.Nat.{_*_};
 ghost use Rattle.reading.specs.Room.{room};
-ghost use Rattle.eac3.specs.Answer.{answered, numberBy};
-ghost use Rattle.eac3_c.specs.Numbers.{bitOf, placeOf, countOf, frameNumbers, laid, Given};
-use bits::ByteCount;
+ghost use Rattle.eac3.specs.Answer.{answered};
+ghost use Rattle.eac3_c.specs.Numbers.{bitOf, frameNumbers, laid, Given};
 use eac3::answer::Frame;
-use eac3::answer::Verdict;
+use eac3::answer::count_of;
+use eac3::answer::number_of;
+use eac3::answer::place_of;
 
 fn wide(x: u16) -> u64
     ensures { λ r. ⌜ r ≡ x ⌝ }
@@ -20,38 +20,12 @@ fn flag(b: bool) -> u16
     if b { 1 } else { 0 }
 }
 
-// The number of a refusal, 0 for an accepted frame; its place, or the frame's end; and the records that were written.
-fn number_of(v: Verdict) -> u8
-    ensures { λ r. ⌜ r ≡ numberBy v ⌝ }
-{
-    match v {
-        Verdict::Accepted => 0,
-        Verdict::Refused(number, place, count) => number,
-    }
-}
-
-fn place_of(v: Verdict, bytes: ByteCount) -> u64
-    ensures { λ r. ⌜ r ≡ placeOf v (bytes .0) ⌝ }
-{
-    match v {
-        Verdict::Accepted => 8 * wide(bytes.0),
-        Verdict::Refused(number, place, count) => wide(place),
-    }
-}
-
-fn count_of(v: Verdict, fields: usize) -> u64
-    ensures { λ r. ⌜ r ≡ countOf v fields ⌝ }
-{
-    match v {
-        Verdict::Accepted => fields as u64,
-        Verdict::Refused(number, place, count) => count as u64,
-    }
-}
-
 // What the answer tells of a frame, as numbers.
 pub fn numbers(f: Frame) -> [u16; 31]
     ensures { λ r. ⌜ r ≡ frameNumbers f ⌝ }
 {
+    let block = f.block_starts;
+    let mantissas = f.mantissa_starts;
     [
         f.bytes.0,
         f.bsid,
@@ -61,18 +35,18 @@ pub fn numbers(f: Frame) -> [u16; 31]
         f.strmtyp,
         f.substreamid,
         f.numblks,
-        f.block_starts[0],
-        f.block_starts[1],
-        f.block_starts[2],
-        f.block_starts[3],
-        f.block_starts[4],
-        f.block_starts[5],
-        f.mantissa_starts[0],
-        f.mantissa_starts[1],
-        f.mantissa_starts[2],
-        f.mantissa_starts[3],
-        f.mantissa_starts[4],
-        f.mantissa_starts[5],
+        block[0].0,
+        block[1].0,
+        block[2].0,
+        block[3].0,
+        block[4].0,
+        block[5].0,
+        mantissas[0].0,
+        mantissas[1].0,
+        mantissas[2].0,
+        mantissas[3].0,
+        mantissas[4].0,
+        mantissas[5].0,
         f.audio_end.0,
         f.aht_tags,
         flag(f.aht_slots[0]),
@@ -120,8 +94,14 @@ pub extern "C" fn eac3_parse(
     let v = a.verdict;
     let f = a.frame;
     let number = number_of(v);
-    let place = place_of(v, f.bytes);
-    let count = count_of(v, f.fields);
-    lay(answer, number as u64, place, count, numbers(f));
+    let place = place_of(v, f);
+    let count = count_of(v, f);
+    lay(
+        answer,
+        number as u64,
+        place as u64,
+        count as u64,
+        numbers(f),
+    );
     number
 }

@@ -1,6 +1,6 @@
 -- By the callees.
 use mathlib.Core.Path.{ap, _∙_}
-use Rattle.eac3.specs.Answer.{numberBy}
+use Rattle.eac3.specs.Answer.{numberOf}
 use Rattle.eac3.specs.declared.answer.Answer.{Answer}
 use Rattle.eac3_c.proofs.Laying.{laid-are}
 use borrow.Author.Needs.{needs}
@@ -8,10 +8,8 @@ use Rattle.eac3_c.proofs.eac3_parse.Statement.{statement}
 use Rattle.eac3_c.proofs.eac3_parse.Tie as tie
 
 returns : tie.Need-returns
-returns c = record { number = c .before .before .before .before .before .number-of .ensures ∙ ap (λ (a : Answer). numberBy (a .verdict)) (c .before .before .before .before .before .before .before .before .before .before .before .before .before .before .before .before .before .parse .ensures .answer); left = c .before .before .before .before .before .before .before .before .before .before .before .before .before .before .before .before .before .parse .ensures .left; answer = laid-are _ _ _ _ _ _ (c .lay .ensures) (c .before .before .before .before .before .number-of .ensures) (c .before .before .before .before .place-of .ensures) (c .before .before .before .count-of .ensures) (c .before .numbers .ensures) (c .before .before .before .before .before .before .before .before .before .before .before .before .before .before .before .before .before .parse .ensures .answer) }
+returns c = record { number = c .before .before .before .before .before .number-of .ensures ∙ ap (λ (a : Answer). numberOf a) (c .before .before .before .before .before .before .before .before .before .before .before .before .before .before .before .before .before .parse .ensures .answer); left = c .before .before .before .before .before .before .before .before .before .before .before .before .before .before .before .before .before .parse .ensures .left; answer = laid-are _ _ _ _ _ _ (c .lay .ensures) (c .before .before .before .before .before .number-of .ensures) (c .before .before .before .before .place-of .ensures) (c .before .before .before .count-of .ensures) (c .before .numbers .ensures) (c .before .before .before .before .before .before .before .before .before .before .before .before .before .before .before .before .before .parse .ensures .answer) }
 
 pub eac3-parse-spec : {M : Type 1} → statement M
 eac3-parse-spec =
-    tie.close (tie.spec (λ c κs. search needs) (λ c κs. search needs) (λ c κs. search needs) (λ c κs. search needs)
-    (λ c. search needs) (λ c κs. search needs) (λ c κs. search needs) (λ c. search needs) (λ c. search needs)
-    (λ c. search needs) (λ c. search needs) (λ c. search needs) (λ c. search needs) returns)
+    tie.close (tie.spec (λ c κs. search needs) (λ c κs. search needs) (λ c κs. search needs) (λ c κs. search needs) (λ c. search needs) (λ c. search needs) (λ c κs. search needs) (λ c κs. search needs) (λ c. search needs) (λ c. search needs) (λ c. search needs) (λ c. search needs) (λ c. search needs) (λ c. search needs) returns)

@@ -4,7 +4,7 @@ use Rattle.eac3.proofs.answer.frame_of.Statement.{statement}
 use Rattle.eac3.proofs.answer.frame_of.Tie as tie
 
 returns : tie.Need-returns
-returns c = rw (c .before .before .before .before .before .before .before .before .before .before .before .before .before .before .bytes .ensures, c .before .before .before .before .before .before .before .before .before .before .before .before .before .cell-of .ensures, c .before .before .before .before .before .before .before .before .before .before .before .before .cell-of2 .ensures, c .before .before .before .before .before .before .before .before .before .before .before .flag .ensures, c .before .before .before .before .before .before .before .before .before .before .cell-of3 .ensures, c .before .before .before .before .before .before .before .before .before .cell-of4 .ensures, c .before .before .before .before .before .before .before .before .cell-of5 .ensures, c .before .before .before .before .before .before .before .cell-of6 .ensures, c .before .before .before .before .before .before .six-values .ensures, c .before .before .before .before .before .six-values2 .ensures, c .before .before .before .before .cell-of7 .ensures, c .before .before .before .cell-of8 .ensures, c .before .before .seven-flags .ensures, c .before .cell-of9 .ensures, c .cell-of10 .ensures) refl
+returns c = rw (c .before .before .before .before .before .before .before .before .before .before .before .before .before .before .bytes .ensures, c .before .before .before .before .before .before .before .before .before .before .before .before .before .cell-of .ensures, c .before .before .before .before .before .before .before .before .before .before .before .before .cell-of2 .ensures, c .before .before .before .before .before .before .before .before .before .before .before .flag .ensures, c .before .before .before .before .before .before .before .before .before .before .cell-of3 .ensures, c .before .before .before .before .before .before .before .before .before .cell-of4 .ensures, c .before .before .before .before .before .before .before .before .cell-of5 .ensures, c .before .before .before .before .before .before .before .cell-of6 .ensures, c .before .before .before .before .before .before .six-places .ensures, c .before .before .before .before .before .six-places2 .ensures, c .before .before .before .before .cell-of7 .ensures, c .before .before .before .cell-of8 .ensures, c .before .before .seven-flags .ensures, c .before .cell-of9 .ensures, c .cell-of10 .ensures) refl
 
 pub frame-of-spec : {M : Type 1} → statement M
 frame-of-spec =
