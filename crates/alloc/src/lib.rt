@@ -221,23 +221,24 @@ fn single_bands(exps: &[u8], bnd: &mut [u32; 50], from: usize, to: usize)
     }
 }
 
-// The sums of the bands of the bins start .. end - 1, which are the bands first .. last - 1: those below 28, and the others.
+// The sums of the bands of the bins start .. end - 1, which are the bands first .. last - 1: those below 28, and the others. The
+// other bands keep the level of 0.
 fn bands(
     latab: &[u8; 256],
     ends: &[u8; 50],
     exps: &[u8],
+    bnd: &mut [u32; 50],
     start: usize,
     end: usize,
     first: usize,
     last: usize,
-) -> [u32; 50]
-    requires { ⌜ (now latab ≡ laTab) × (now ends ≡ bndend) ⌝ }
+)
+    requires { ⌜ (now latab ≡ laTab) × (now ends ≡ bndend) × (now bnd ≡ replicate 50 8192) ⌝ }
     requires { ⌜ (start < end) × (end ≤ 253) × Exponents (now exps) start end × (first ≡ bandOf start) × (last ≡ bandOf (end - 1) + 1) ⌝ }
-    ensures { λ r. ⌜ r ≡ bndpsdsL (now (exps .entry)) start end ⌝ }
+    ensures { λ r. ⌜ now (bnd .exit) ≡ bndpsdsL (now (exps .entry)) start end ⌝ }
 {
-    let mut bnd = [8192u32; 50];
     let mid = later(first, sooner(end, 28));
-    single_bands(exps, &mut bnd, first, mid);
+    single_bands(exps, bnd, first, mid);
     let mut k = mid;
     while k < last {
         let lo = later(start, start_of(ends, k));
@@ -245,7 +246,6 @@ fn bands(
         bnd[k] = band_sum(latab, exps, lo, hi);
         k += 1;
     }
-    bnd
 }
 
 // calc_lowcomp
@@ -535,27 +535,26 @@ fn place_bands(out: &mut [u32; 50], q: Levels, first: usize, last: usize)
     }
 }
 
-// The places of the bands first .. last - 1 among the pointers.
+// The places of the bands first .. last - 1 among the pointers. The other bands keep 0.
 fn places(
     hth: &[u16; 150],
     bnd: &[u32; 50],
+    out: &mut [u32; 50],
     g: Gains,
     l: Leaks,
     q: Levels,
     d: Deltas,
     first: usize,
     last: usize,
-) -> [u32; 50]
+)
     requires { ⌜ (now hth ≡ hthTab) × (first ≤ last) × (last ≤ 50) × ((k : ℕ) → getD (now bnd) k 0 < 32768) ⌝ }
-    requires { ⌜ (Leaking l) × (d .n ≤ 8) × Levelled q ⌝ }
-    ensures { λ r. ⌜ r ≡ placesL g l q d (now (bnd .entry)) first last ⌝ }
+    requires { ⌜ (Leaking l) × (d .n ≤ 8) × Levelled q × (now out ≡ replicate 50 0) ⌝ }
+    ensures { λ r. ⌜ now (out .exit) ≡ placesL g l q d (now (bnd .entry)) first last ⌝ }
 {
-    let mut out = [0u32; 50];
-    excite(bnd, &mut out, g, l, first, last);
-    mask_bands(hth, bnd, &mut out, q, first, last);
-    shift(&mut out, d, first, last);
-    place_bands(&mut out, q, first, last);
-    out
+    excite(bnd, out, g, l, first, last);
+    mask_bands(hth, bnd, out, q, first, last);
+    shift(out, d, first, last);
+    place_bands(out, q, first, last);
 }
 
 // The pointer of a bin with the exponent e in a band with its place in the table.
@@ -732,8 +731,10 @@ fn allocate_some(
 {
     let first = band_of(masktab, start);
     let last = band_of(masktab, end - 1) + 1;
-    let bnd = bands(latab, ends, exps, start, end, first, last);
-    let place = places(hth, &bnd, g, l, q, d, first, last);
+    let mut bnd = [8192u32; 50];
+    bands(latab, ends, exps, &mut bnd, start, end, first, last);
+    let mut place = [0u32; 50];
+    places(hth, &bnd, &mut place, g, l, q, d, first, last);
     clear(out, 0, start);
     clear(out, end, 256);
     point_all(

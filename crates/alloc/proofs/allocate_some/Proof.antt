@@ -1,8 +1,7 @@
-use mathlib.Core.Path.{ap, _∙_}
+use mathlib.Core.Path.{refl, ap, _∙_}
 use native.Mathlib.Omega.{arith}
 use Prim.Native.Nat.{_+_, _-_}
 use Rattle.tables.proofs.Bins.{bands-rise}
-use Rattle.alloc.specs.Levels.{pointerL}
 use Rattle.alloc.proofs.Lists.{written-whole}
 use Rattle.alloc.proofs.Sums.{bands-low}
 use Rattle.alloc.proofs.Whole.{places-most, places-are, all-are, shares-are}
@@ -12,36 +11,36 @@ use Rattle.alloc.proofs.allocate_some.Tie as tie
 
 bands-requires : tie.Need-bands-requires
 bands-requires c κs =
-    let p = c .before .before .before .before .pre in
+    let p = c .before .before .before .before .before .pre in
     let r = p .1 .0 in
-    ((p .0 .log, p .0 .ends), (r .0, r .1, r .2, c .before .band-of .ensures .band, ap (λ x. x + 1) (c .band-of2 .ensures .band)))
+    ((p .0 .log, p .0 .ends, refl), (r .0, r .1, r .2, c .before .before .band-of .ensures .band, ap (λ x. x + 1) (c .before .band-of2 .ensures .band)))
 
 places-requires : tie.Need-places-requires
 places-requires c κs =
-    let p = c .before .before .before .before .before .before .pre in
-    let a = c .before .before .before .before .before .before .args in
-    let one = c .before .before .before .band-of .ensures in
-    let two = c .before .before .band-of2 .ensures in
-    let r = bands-rise (a .start) (a .end - 1) (c .before .before .before .band-of .result) (c .before .before .band-of2 .result) (omega (arith, p .1 .0 .0)) one two in (
-      (p .0 .heard, omega arith, omega (arith, two .is), λ k. rw (c .before .bands .ensures) (bands-low (a .exps .now) (a .start) (a .end) (p .1 .0 .1) k)),
-      (p .1 .1 .0 .0, p .1 .1 .0 .1, p .1 .1 .0 .2),
+    let p = c .before .before .before .before .before .before .before .before .pre in
+    let a = c .before .before .before .before .before .before .before .before .args in
+    let one = c .before .before .before .before .before .band-of .ensures in
+    let two = c .before .before .before .before .band-of2 .ensures in
+    let r = bands-rise (a .start) (a .end - 1) (c .before .before .before .before .before .band-of .result) (c .before .before .before .before .band-of2 .result) (omega (arith, p .1 .0 .0)) one two in (
+      (p .0 .heard, omega arith, omega (arith, two .is), λ k. rw (c .before .before .bands .ensures) (bands-low (a .exps .now) (a .start) (a .end) (p .1 .0 .1) k)),
+      (p .1 .1 .0 .0, p .1 .1 .0 .1, p .1 .1 .0 .2, refl),
     )
 
 clear-requires : tie.Need-clear-requires
 clear-requires c κs =
-    let p = c .before .before .before .before .before .before .before .before .pre .1 .0 in
+    let p = c .before .before .before .before .before .before .before .before .before .before .pre .1 .0 in
     (omega arith, omega (arith, p .0, p .1), p .3)
 
 clear-requires-2 : tie.Need-clear-requires-2
 clear-requires-2 c κs =
-    let p = c .before .before .before .before .before .before .before .before .before .before .before .before .pre .1 .0 in
+    let p = c .before .before .before .before .before .before .before .before .before .before .before .before .before .before .pre .1 .0 in
     (omega (arith, p .1), omega arith, c .before .before .before .clear .ensures .size ∙ p .3)
 
 point-all-requires : tie.Need-point-all-requires
 point-all-requires c κs =
-    let p = c .before .before .before .before .before .before .before .before .before .before .before .before .before .before .before .before .before .pre in
+    let p = c .before .before .before .before .before .before .before .before .before .before .before .before .before .before .before .before .before .before .before .pre in
     let r = p .1 .0 in (
-      (p .0 .ends, omega (arith, r .0), r .1, p .1 .1 .0 .3, c .before .before .before .before .before .before .before .before .before .before .before .before .before .before .band-of .ensures .band),
+      (p .0 .ends, omega (arith, r .0), r .1, p .1 .1 .0 .3, c .before .before .before .before .before .before .before .before .before .before .before .before .before .before .before .before .band-of .ensures .band),
       (
         (r .2, c .before .before .before .before .clear2 .ensures .size ∙ c .before .before .before .before .before .before .before .before .clear .ensures .size ∙ r .3),
         (λ k. rw (c .before .before .before .before .before .before .before .before .before .before .places .ensures) (places-most _ _ _ _ _ _ _ k), p .1 .1 .1),
@@ -54,15 +53,15 @@ same-length c =
 
 returns : tie.Need-returns
 returns c =
-    let a = c .before .before .before .before .before .before .before .before .before .before .before .before .before .before .before .before .before .before .before .before .args in
-    let p = c .before .before .before .before .before .before .before .before .before .before .before .before .before .before .before .before .before .before .before .before .pre .1 .0 in
-    let m = places-are (a .exps .now) (a .start) (a .end) (a .g) (a .l) (a .q) (a .d) (c .before .before .before .before .before .before .before .before .before .before .before .before .before .before .before .bands .result) (c .before .before .before .before .before .before .before .before .before .before .before .before .before .before .before .before .before .band-of .result) (c .before .before .before .before .before .before .before .before .before .before .before .before .before .before .before .before .band-of2 .result) (c .before .before .before .before .before .before .before .before .before .before .before .before .before .places .result)
-    (c .before .before .before .before .before .before .before .before .before .before .before .before .before .before .before .before .before .band-of .ensures .band) (c .before .before .before .before .before .before .before .before .before .before .before .before .before .before .before .before .band-of2 .ensures .band) (c .before .before .before .before .before .before .before .before .before .before .before .before .before .before .before .bands .ensures) (c .before .before .before .before .before .before .before .before .before .before .before .before .before .places .ensures)
+    let a = c .before .before .before .before .before .before .before .before .before .before .before .before .before .before .before .before .before .before .before .before .before .before .args in
+    let p = c .before .before .before .before .before .before .before .before .before .before .before .before .before .before .before .before .before .before .before .before .before .before .pre .1 .0 in
+    let m = places-are (a .exps .now) (a .start) (a .end) (a .g) (a .l) (a .q) (a .d) _ (c .before .before .before .before .before .before .before .before .before .before .before .before .before .before .before .before .before .before .before .band-of .result) (c .before .before .before .before .before .before .before .before .before .before .before .before .before .before .before .before .before .before .band-of2 .result) _
+    (c .before .before .before .before .before .before .before .before .before .before .before .before .before .before .before .before .before .before .before .band-of .ensures .band) (c .before .before .before .before .before .before .before .before .before .before .before .before .before .before .before .before .before .before .band-of2 .ensures .band) (c .before .before .before .before .before .before .before .before .before .before .before .before .before .before .before .before .bands .ensures) (c .before .before .before .before .before .before .before .before .before .before .before .before .before .places .ensures)
     in (
-      all-are (a .exps .now) (a .start) (a .end) (a .g) (a .l) (a .q) (a .d) (a .points .now) (a .base) (c .before .before .before .before .before .before .before .before .before .before .before .before .before .places .result) m _
-          (written-whole (pointerL (a .points .now) (a .base) (a .exps .now) (c .before .before .before .before .before .before .before .before .before .before .before .before .before .places .result)) (a .start) (a .end) 256 _ _ _ _ (p .3) (omega (arith, p .0))
+      all-are (a .exps .now) (a .start) (a .end) (a .g) (a .l) (a .q) (a .d) (a .points .now) (a .base) _ m _
+          (written-whole _ (a .start) (a .end) 256 _ _ _ _ (p .3) (omega (arith, p .0))
           (c .before .before .before .before .before .before .before .before .before .before .before .clear .ensures) (c .before .before .before .before .before .before .before .clear2 .ensures) (c .before .before .point-all .ensures .written)),
-      shares-are (a .exps .now) (a .start) (a .end) (a .g) (a .l) (a .q) (a .d) (a .points .now) (a .base) (c .before .before .before .before .before .before .before .before .before .before .before .before .before .places .result) m (a .shares .now) _ (omega (arith, p .1)) (c .before .before .point-all .ensures .sum),
+      shares-are (a .exps .now) (a .start) (a .end) (a .g) (a .l) (a .q) (a .d) (a .points .now) (a .base) _ m (a .shares .now) _ (omega (arith, p .1)) (c .before .before .point-all .ensures .sum),
     )
 
 pub allocate-some-spec : {M : Type 1} → statement M

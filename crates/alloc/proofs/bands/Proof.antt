@@ -14,11 +14,11 @@ use Rattle.alloc.proofs.bands.Statement.{statement}
 use Rattle.alloc.proofs.bands.Tie as tie
 
 abbrev Inv-loop : tie.InvT-loop
-Inv-loop latab ends exps start end first last bnd₀ mid k₀ bnd k =
+Inv-loop latab ends exps bnd₀ start end first last mid k₀ bnd k =
     (mid ≤ k) × (k ≤ last) × (last ≤ 50) × (length bnd ≡ 50) × Written (bndpsdL exps start end) mid k bnd₀ bnd
 
 abbrev μ-loop : tie.MeasureT-loop
-μ-loop latab ends exps start end first last bnd₀ mid k₀ bnd k = last - k
+μ-loop latab ends exps bnd₀ start end first last mid k₀ bnd k = last - k
 
 single-bands-requires : tie.Need-single-bands-requires Inv-loop μ-loop
 single-bands-requires c κs =
@@ -35,7 +35,7 @@ loop-holds c =
     let p = c .before .before .before .before .before .pre .1 in
     let e = own-band (a .end - 1) (omega (arith, p .0, p .1)) in
     let m = singles-end (a .exps .now) (a .start) (a .end) (p .0) (p .1) in
-    (omega arith, omega (arith, c .before .before .before .sooner .ensures, c .before .before .later .ensures, p .3, p .4), omega (arith, p .4, e .is), c .single-bands .ensures .size, written-none _ (c .before .before .later .result) _)
+    (omega arith, omega (arith, c .before .before .before .sooner .ensures, c .before .before .later .ensures, p .3, p .4), omega (arith, p .4, e .is), c .single-bands .ensures .size ∙ ap length (c .before .before .before .before .before .pre .0 .2), written-none _ (c .before .before .later .result) _)
 
 band-sum-requires : tie.Need-band-sum-requires Inv-loop μ-loop
 band-sum-requires c κs =
@@ -70,7 +70,7 @@ returns c =
     let m = c .before .before .before .before .later .ensures ∙ ap₂ max (p .3) (c .before .before .before .before .before .sooner .ensures) in
     let e : c .before .loop .k ≡ a .last = omega arith in
     bands-are (a .exps .now) (a .start) (a .end) (p .0) (p .1) (c .before .before .before .before .later .result) _ (c .before .loop .bnd) m
-    (rw (p .3) at (c .before .before .single-bands .ensures)) (rw (← p .4, ← e) (c .before .loop .inv .4))
+    (rw (p .3, c .before .before .before .before .before .before .before .pre .0 .2) at (c .before .before .single-bands .ensures)) (rw (← p .4, ← e) (c .before .loop .inv .4))
 
 pub bands-spec : {M : Type 1} → statement M
 bands-spec =
