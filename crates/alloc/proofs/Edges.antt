@@ -3,11 +3,10 @@
 use mathlib.Core.Path.{_≡_, refl}
 use mathlib.Core.List.{List}
 use Prim.Native.Nat.{ℕ, _≤_}
-use lib.IntN.{ℤ, pos, negsuc, _+ℤ_}
+use lib.IntN.{pos, negsuc}
 use lib.ListN.{getD, replicate}
 use Rattle.tables.proofs.Limits.{bap-at-most-15, hebap-at-most-19}
-use Rattle.tables.proofs.Neighbours.{latab-high}
-use Rattle.alloc.specs.Allocation.{maxZ, logadd, snroffset, pointer, allocation}
+use Rattle.alloc.specs.Allocation.{snroffset, pointer, allocation}
 use Rattle.alloc.specs.declared.Channel.{Channel}
 use Rattle.alloc.specs.declared.Deltas.{Deltas}
 use Rattle.alloc.specs.declared.Leak.{Leak}
@@ -28,15 +27,6 @@ offset-15-0 = refl
 pub offset-63-15 : snroffset 63 15 ≡ pos 3132
 unfolding snroffset
 offset-63-15 = refl
-
--- a sum is its larger argument and at most 64 more
-pub record Above (m r : ℤ) : Type 0 where
-  pub by : ℕ
-  pub is : r ≡ m +ℤ pos by
-  pub most : by ≤ 64
-
-pub logadd-above : (a b : ℤ) → Above (maxZ a b) (logadd a b)
-logadd-above a b = record { by = _; is = refl; most = latab-high _ }
 
 pub none-allocated : (kind : Pointers) (exp : List ℕ) (c : Channel) (q : Params) (l : Leak) (d : Deltas) → c .end ≤ c .start
     → replicate 256 0 ≡ allocation kind exp c q l d

@@ -1,4 +1,5 @@
 pub mod BitAllocation
 pub mod Bands
+pub mod Neighbours
 pub mod Small
 pub mod Steps
