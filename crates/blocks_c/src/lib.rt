@@ -30,7 +30,7 @@ pub extern "C" fn blocks_start(slot: u8, absexp: u8) -> u8
     requires { ⌜ absexp ≤ 15 ⌝ }
     ensures { λ r. ⌜ r ≡ startOf slot absexp ⌝ }
 {
-    exponents::start_of(slot, absexp)
+    exponents::start_of(slot, absexp) as u8
 }
 
 #[no_mangle]
@@ -74,10 +74,10 @@ fn wide(x: u8) -> u32
 pub extern "C" fn blocks_decode(prev: u8, group: u8) -> u32
     ensures { λ r. ⌜ r ≡ packedGroup (decodeOf prev group) ⌝ }
 {
-    let g = exponents::decode(prev, group);
+    let g = exponents::decode(prev as u32, group as u32);
     match g {
         Group::Refused(n) => 16777216 * wide(n),
-        Group::Moved(a, b, c) => wide(a) + 256 * wide(b) + 65536 * wide(c),
+        Group::Moved(a, b, c) => a + 256 * b + 65536 * c,
     }
 }
 

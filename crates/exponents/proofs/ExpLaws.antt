@@ -12,7 +12,7 @@ use borrow.Author.Tests.{lt-ltb, le-ltb, eq-eqb, ne-eqb, leb-true, ltb-true}
 use Rattle.slots.specs.Held.{Held}
 use Rattle.slots.proofs.Tests.{both}
 use Rattle.slots.specs.Slots.{CPL, LFE}
-use Rattle.exponents.specs.Exponents.{nextOf, onTo, decodeOf, groupsOf, putOf, spreadOf, laidOf, sizeOf}
+use Rattle.exponents.specs.Exponents.{nextOf, onTo, decodeOf, groupsOf, startOf, putOf, spreadOf, laidOf, sizeOf}
 use Rattle.exponents.specs.declared.Group.{Group}
 use Rattle.exponents.specs.declared.Group.the-variants.{Refused, Moved}
 use Rattle.exponents.specs.declared.Next.{Next}
@@ -29,7 +29,7 @@ module _ (prev grp : ℕ) (n : Next) (e : n ≡ nextOf prev (grp / 25)) (h : grp
     unfolding decodeOf
     decode-second i = rw (le-ltb 124 grp h, ← e, f, ← g, i)
 
-    module _ (b : ℕ) (i : m ≡ To b) (l : Next) (j : l ≡ nextOf b (grp % 5)) where
+    module _ (b : ℕ) (i : m ≡ To b) (l : Next) (j : l ≡ nextOf b (grp % 25 % 5)) where
       pub decode-third : l ≡ Outside → Refused 27 ≡ decodeOf prev grp
       unfolding decodeOf
       decode-third k = rw (le-ltb 124 grp h, ← e, f, ← g, i, ← j, k)
@@ -117,6 +117,18 @@ next-low prev m e q =
     let h = leb-true (prev + m) 26 (both (leb 2 (prev + m)) (leb (prev + m) 26) (n .0) .1) in
     omega (arith, n .1)
 
+-- what the next step counts from is a byte, and so is what the first group counts from
+pub next-byte : (prev m e : ℕ) {n : Next} → n ≡ nextOf prev m → n ≡ To e → e < 256
+next-byte prev m e f g = let h = next-low prev m e (sym f ∙ g) in omega arith
+
+pub start-low : (slot absexp : ℕ) → absexp ≤ 15 → startOf slot absexp ≤ 30
+unfolding startOf
+start-low slot absexp h = go (eqb slot CPL)
+  where
+    go : (t : Bool) → cond t (2 * absexp) absexp ≤ 30
+    go true = omega arith
+    go false = omega arith
+
 -- the three of a group
 pub record Low (a b c : ℕ) : Type 0 where
   pub first : a ≤ 24
@@ -142,11 +154,11 @@ module _ (a b c : ℕ) where
   pub decode-low : (prev grp : ℕ) → decodeOf prev grp ≡ Moved a b c → Low a b c
   unfolding decodeOf
   decode-low prev grp q =
-      through (nextOf prev (grp / 25)) (λ x. onTo (nextOf x (grp % 25 / 5)) (λ y. onTo (nextOf y (grp % 5)) (λ z. Moved x y z)))
-      (λ x ex. through (nextOf x (grp % 25 / 5)) (λ y. onTo (nextOf y (grp % 5)) (λ z. Moved x y z))
-      (λ y ey. through (nextOf y (grp % 5)) (λ z. Moved x y z)
-      (λ z ez. ends x y z (next-low prev (grp / 25) x ex) (next-low x (grp % 25 / 5) y ey) (next-low y (grp % 5) z ez))))
-      (past-high (ltb 124 grp) (onTo (nextOf prev (grp / 25)) (λ x. onTo (nextOf x (grp % 25 / 5)) (λ y. onTo (nextOf y (grp % 5)) (λ z. Moved x y z)))) q)
+      through (nextOf prev (grp / 25)) (λ x. onTo (nextOf x (grp % 25 / 5)) (λ y. onTo (nextOf y (grp % 25 % 5)) (λ z. Moved x y z)))
+      (λ x ex. through (nextOf x (grp % 25 / 5)) (λ y. onTo (nextOf y (grp % 25 % 5)) (λ z. Moved x y z))
+      (λ y ey. through (nextOf y (grp % 25 % 5)) (λ z. Moved x y z)
+      (λ z ez. ends x y z (next-low prev (grp / 25) x ex) (next-low x (grp % 25 / 5) y ey) (next-low y (grp % 25 % 5) z ez))))
+      (past-high (ltb 124 grp) (onTo (nextOf prev (grp / 25)) (λ x. onTo (nextOf x (grp % 25 / 5)) (λ y. onTo (nextOf y (grp % 25 % 5)) (λ z. Moved x y z)))) q)
 
 module _ (exps : List ℕ) (held : Held exps) where
   at-put : (slot bin e : ℕ) → e ≤ 24 → slot < 7 → bin < 256 → (k : ℕ) → k < 1792 → Dec (k ≡ 256 * slot + bin) → getD (set exps (256 * slot + bin) e) k 0 ≤ 24

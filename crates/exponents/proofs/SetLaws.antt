@@ -10,7 +10,6 @@ use lib.ListN.{length, getD, set, length-set}
 use lib.Seq.{getD-set-other}
 use borrow.Author.Tests.{le-leb, lt-leb, ltb-true}
 use Rattle.bits.specs.Bits.{bitsAt}
-use Rattle.bits.proofs.BitLaws.{bitsAt-lt}
 use Rattle.reading.specs.Tree.{Part, Tree, done, refuse, read}
 use Rattle.reading.specs.Run.{fieldOf, Result, accepted, refused, Outcome, out, cons, run, element}
 use Rattle.reading.specs.Room.{Room, room, pushed, Out, got, exec}
@@ -25,7 +24,7 @@ use Rattle.exponents.specs.Exponents.{decodeOf, sizeOf, groupsOf, startO
 use Rattle.exponents.specs.Set.{onGroup, groupsFrom, begunOf, setOf, Laid, SetRead}
 use Rattle.exponents.specs.declared.Group.{Group}
 use Rattle.exponents.specs.declared.Group.the-variants.{Refused, Moved}
-use Rattle.exponents.proofs.ExpLaws.{Low, decode-low, put-held}
+use Rattle.exponents.proofs.ExpLaws.{Low, decode-low, start-low, put-held}
 
 -- exponents of one slot, laid one after another
 pub laid-none : (slot : ℕ) (exps : List ℕ) → Laid slot exps exps
@@ -150,6 +149,7 @@ pub record Standing (s : List ℕ) (l : ℕ) (q : Part) (slot size : ℕ) (o : O
   pub held : Held exps
   pub same : Same first m
   pub fills : Fills most m
+  pub byte : prev < 256
   pub low : bin + 12 * left ≤ 851955
   pub place : p < 65536
 
@@ -171,21 +171,18 @@ kept-same m n name p v b i = record {
   values = length-set (m .values) n v;
 }
 
-pub standing-first : (s : List ℕ) (l : ℕ) (q : Part) (slot strategy absexp most : ℕ) (old exps : List ℕ) (left bin prev p n : ℕ) (m : Room) → Fills most m → Held old → absexp ≤ 15 → exps ≡ begunOf slot absexp old → left < 65536 → bin < 65536 → p < 65536
+pub standing-first : (s : List ℕ) (l : ℕ) (q : Part) (slot strategy absexp most : ℕ) (old exps : List ℕ) (left bin prev p n : ℕ) (m : Room) → Fills most m → Held old → absexp ≤ 15 → exps ≡ begunOf slot absexp old → prev ≡ startOf slot absexp → left < 65536 → bin < 65536 → p < 65536
     → Standing s l q slot (sizeOf strategy) (rest s l q slot (sizeOf strategy) left bin prev exps p n m) most exps m left bin prev exps p n m
-standing-first s l q slot strategy absexp most old exps left bin prev p n m fills held small e h k place = record {
+standing-first s l q slot strategy absexp most old exps left bin prev p n m fills held small e f h k place = record {
   whole = refl;
   laid = laid-none slot exps;
   held = rw e (laid-begun old slot absexp (omega arith) .held held);
   same = same-refl m;
   fills = fills;
+  byte = omega (arith, start-low slot absexp small);
   low = omega arith;
   place = place;
 }
-
--- a group has 7 bits
-pub seven : (s : List ℕ) (p : ℕ) {v : ℕ} → v ≡ bitsAt s p 7 → v < 128
-seven s p e = rw e (bitsAt-lt s p 7)
 
 module _ {s : List ℕ} {l name : ℕ} {b i : ℤ} {slot size : ℕ} {o : Out (List ℕ)} {most : ℕ} {old : List ℕ} {first : Room} {left bin prev : ℕ} {exps : List ℕ} {p n : ℕ} {m : Room}
     (at : Standing s l (part name b i) slot size o most old first left bin prev exps p n m) where
@@ -214,12 +211,16 @@ module _ {s : List ℕ} {l name : ℕ} {b i : ℤ} {slot size : ℕ} {o : Out (L
               held = group .held (at .held);
               same = same-trans (at .same) (kept-same m n name p v b i);
               fills = same-fills (kept-same m n name p v b i) most (at .fills);
+              byte = omega (arith, exponents .third);
               low = let k = at .low in omega arith;
               place = omega arith;
             }
           where
+            exponents : Low x y z
+            exponents = decode-low x y z prev v (sym eg ∙ h)
+
             group : Laid slot exps exps′
-            group = rw eb (laid-group exps slot size bin x y z (decode-low x y z prev v (sym eg ∙ h)))
+            group = rw eb (laid-group exps slot size bin x y z exponents)
 
             moved : rest s l (part name b i) slot size left bin prev exps p n m ≡ rest s l (part name b i) slot size (left - 1) (bin + step) z exps′ (p + 7) (n + 1) (kept m n name b i p v)
             moved =

@@ -23,7 +23,7 @@ onTo (To e) k = k e
 unfoldable pub decodeOf : ℕ → ℕ → Group
 decodeOf prev grp =
     cond (ltb 124 grp) (Refused 11)
-    (onTo (nextOf prev (grp / 25)) (λ a. onTo (nextOf a (grp % 25 / 5)) (λ b. onTo (nextOf b (grp % 5)) (λ c. Moved a b c))))
+    (onTo (nextOf prev (grp / 25)) (λ a. onTo (nextOf a (grp % 25 / 5)) (λ b. onTo (nextOf b (grp % 25 % 5)) (λ c. Moved a b c))))
 
 -- grpsize: 1, 2, 4 for D15, D25, D45, the strategies 1, 2, 3
 unfoldable pub sizeOf : ℕ → ℕ

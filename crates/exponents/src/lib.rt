@@ -15,31 +15,33 @@ pub mod set; // a set of exponents, read group by group
 // An exponent after one step, or none where it leaves 0 to 24.
 pub enum Next {
     Outside,
-    To(u8),
+    To(u32),
 }
 
 // What a group comes to: three exponents, or a refusal.
 pub enum Group {
     Refused(u8),
-    Moved(u8, u8, u8),
+    Moved(u32, u32, u32),
 }
 
-fn step(prev: u8, m: u8) -> Next
+fn step(prev: u32, m: u32) -> Next
+    requires { ⌜ (prev < 256) × (m < 5) ⌝ }
     ensures { λ r. ⌜ r ≡ nextOf prev m ⌝ }
 {
-    let sum = prev as u16 + m as u16;
+    let sum = prev + m;
     if sum < 2 {
         return Next::Outside;
     }
     if 26 < sum {
         return Next::Outside;
     }
-    Next::To((sum - 2) as u8)
+    Next::To(sum - 2)
 }
 
 // The three exponents of a group, from the exponent before it: 11 for a group above 124, and 27 where
 // an exponent leaves 0 to 24.
-pub fn decode(prev: u8, group: u8) -> Group
+pub fn decode(prev: u32, group: u32) -> Group
+    requires { ⌜ prev < 256 ⌝ }
     ensures { λ r. ⌜ r ≡ decodeOf prev group ⌝ }
 {
     if 124 < group {
@@ -51,7 +53,7 @@ pub fn decode(prev: u8, group: u8) -> Group
     let Next::To(b) = step(a, group % 25 / 5) else {
         return Group::Refused(27);
     };
-    let Next::To(c) = step(b, group % 5) else {
+    let Next::To(c) = step(b, group % 25 % 5) else {
         return Group::Refused(27);
     };
     Group::Moved(a, b, c)
@@ -91,11 +93,12 @@ pub fn groups(slot: u8, strategy: u8, start: u16, end: u16) -> u16
 }
 
 // The value that the first group counts from.
-pub fn start_of(slot: u8, absexp: u8) -> u8
+pub fn start_of(slot: u8, absexp: u8) -> u32
     requires { ⌜ absexp ≤ 15 ⌝ }
     ensures { λ r. ⌜ r ≡ startOf slot absexp ⌝ }
 {
-    if slot == CPL { 2 * absexp } else { absexp }
+    let value = absexp as u32;
+    if slot == CPL { 2 * value } else { value }
 }
 
 // The bin that the first group's exponents begin at.

@@ -82,13 +82,13 @@ pub fn read_exponents(
         values[n] = v;
         p += 7;
         n += 1;
-        let g = decode(prev, v as u8);
+        let g = decode(prev, v);
         match g {
             Group::Refused(number) => {
                 return halted(BitPlace(p), n, number);
             }
             Group::Moved(a, b, c) => {
-                lay(exps, slot, strategy, bin, a, b, c);
+                lay(exps, slot, strategy, bin, a as u8, b as u8, c as u8);
                 prev = c;
             }
         }

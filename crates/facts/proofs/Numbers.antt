@@ -183,7 +183,7 @@ numbered-decode : (prev grp : ℕ) → Group-numbered (decodeOf prev grp)
 unfolding decodeOf
 numbered-decode prev grp =
     group-if (ltb 124 grp) _ _ (let z : 11 ≤ 32 = omega arith in z)
-    (numbered-next (nextOf prev (grp / 25)) _ (λ a. numbered-next (nextOf a (grp % 25 / 5)) _ (λ b. numbered-next (nextOf b (grp % 5)) _ (λ c. tt))))
+    (numbered-next (nextOf prev (grp / 25)) _ (λ a. numbered-next (nextOf a (grp % 25 / 5)) _ (λ b. numbered-next (nextOf b (grp % 25 % 5)) _ (λ c. tt))))
 
 refuses-group : {A : Type 0} (g : Group) (f : ℕ → ℕ → ℕ → Tree A) → Group-numbered g → ((a b c : ℕ) → Refuses (f a b c)) → Refuses (onGroup g f)
 refuses-group (Refused n) f h k = h

@@ -18,4 +18,4 @@ unfolding nextOf
 returns-3 c = rw (le-leb 2 _ (c .before .if1 .left), le-leb _ 26 (c .if2 .left))
 
 pub step-spec : {M : Type 1} → statement M
-step-spec = tie.close (tie.spec (λ c. search needs) returns returns-2 (λ c. search needs) returns-3)
+step-spec = tie.close (tie.spec (λ c. search needs) returns returns-2 returns-3)

@@ -1,5 +1,5 @@
 use native.Mathlib.Omega.{arith}
-use mathlib.Core.Path.{ap, _∙_}
+use mathlib.Core.Path.{ap, sym, _∙_}
 use Prim.Native.Nat.{_*_}
 use lib.ListN.{length-set}
 use mir.Facts.{toZ-ofZ}
@@ -9,7 +9,8 @@ use Rattle.reading.specs.Room.{room}
 use Rattle.syntax.specs.Records.{part}
 use Rattle.syntax.proofs.Rooms.{inside}
 use Rattle.exponents.specs.Exponents.{sizeOf}
-use Rattle.exponents.proofs.SetLaws.{Standing, rest, standing-first, standing-end, standing-past, standing-full, standing-refused, standing-moved, seven, set-read}
+use Rattle.exponents.proofs.ExpLaws.{decode-low}
+use Rattle.exponents.proofs.SetLaws.{Standing, rest, standing-first, standing-end, standing-past, standing-full, standing-refused, standing-moved, set-read}
 use borrow.Author.Needs.{needs}
 use Rattle.exponents.proofs.set.read_exponents.Statement.{statement}
 use Rattle.exponents.proofs.set.read_exponents.Tie as tie
@@ -33,7 +34,7 @@ begin-requires : tie.Need-begin-requires Inv-loop μ-loop
 begin-requires c κs = c .before .before .before .before .before .before .before .before .before .before .pre .held .size
 
 loop-holds : tie.Need-loop-holds Inv-loop μ-loop
-loop-holds c = standing-first _ _ _ _ _ _ _ _ _ _ _ _ _ _ _ (c .before .before .before .before .before .before .before .before .before .before .before .pre .fills) (c .before .before .before .before .before .before .before .before .before .before .before .pre .held) (c .before .before .before .before .before .before .before .before .before .before .before .pre .small) (c .begin .ensures) (omega arith) (omega arith) (omega (arith, c .before .before .before .before .before .before .before .before .before .before .before .fits .at))
+loop-holds c = standing-first _ _ _ _ _ _ _ _ _ _ _ _ _ _ _ (c .before .before .before .before .before .before .before .before .before .before .before .pre .fills) (c .before .before .before .before .before .before .before .before .before .before .before .pre .held) (c .before .before .before .before .before .before .before .before .before .before .before .pre .small) (c .begin .ensures) (c .before .before .start-of .ensures) (omega arith) (omega arith) (omega (arith, c .before .before .before .before .before .before .before .before .before .before .before .fits .at))
 
 cast-if1 : tie.Need-cast-if1 Inv-loop μ-loop
 cast-if1 c = omega (arith, c .before .loop .inv .place)
@@ -122,8 +123,8 @@ add-p c = omega (arith, c .before .before .if1 .left, c .before .before .before 
 add-n : tie.Need-add-n Inv-loop μ-loop
 add-n c = omega (arith, c .before .if2 .left, c .before .before .before .before .before .before .before .before .before .before .before .before .before .before .before .before .fits .most)
 
-cast-decode : tie.Need-cast-decode Inv-loop μ-loop
-cast-decode c = omega (arith, seven (c .before .before .before .before .before .before .before .before .before .before .before .before .before .before .before .before .args .src .now) (c .before .before .before .before .loop .p) (c .bits-at .ensures))
+decode-requires : tie.Need-decode-requires Inv-loop μ-loop
+decode-requires c κs = c .before .before .before .before .loop .inv .byte
 
 same-length-13 : tie.Need-same-length-13 Inv-loop μ-loop
 same-length-13 c = length-set (c .before .before .before .before .before .before .before .before .before .loop .names) (c .before .before .before .before .before .before .before .before .before .loop .n) (c .before .before .before .before .before .before .before .before .before .before .before .before .before .before .before .before .before .before .before .before .before .args .name) ∙ c .before .before .before .before .before .before .before .before .before .loop .inv .same .names
@@ -145,6 +146,15 @@ same-length-18 c = length-set (c .before .before .before .before .before .before
 
 returns-3 : tie.Need-returns-3 Inv-loop μ-loop
 returns-3 c = set-read _ _ _ _ _ _ _ (toZ-ofZ (c .before .before .before .before .before .before .before .before .before .before .before .before .before .before .before .before .before .before .before .before .before .fits .block)) (toZ-ofZ (c .before .before .before .before .before .before .before .before .before .before .before .before .before .before .before .before .before .before .before .before .before .fits .index)) _ _ _ _ _ _ _ _ _ (c .before .before .before .before .before .before .before .before .before .before .before .before .before .before .before .before .before .before .before .before .before .pre .held) (c .before .before .before .before .before .before .before .before .before .before .before .before .before .before .before .before .before .before .before .before .before .pre .small) (c .before .before .before .before .before .before .before .before .before .before .before .before .before .before .groups .ensures) (c .before .before .before .before .before .before .before .before .before .before .before .before .before .first-of .ensures) (c .before .before .before .before .before .before .before .before .before .before .before .before .start-of .ensures) (c .before .before .before .before .before .before .before .before .before .before .begin .ensures) (c .before .before .before .before .before .before .before .before .before .loop .inv .laid) (standing-refused (c .before .before .before .before .before .before .before .before .before .loop .inv) (c .before .before .before .before .before .before .before .before .loop-test .taken) (c .before .before .before .before .before .before .before .if1 .left) (c .before .before .before .before .before .before .if2 .left) _ (c .before .before .before .before .before .bits-at .ensures) (c .before .before .before .before .decode .result) (c .before .before .before .before .decode .ensures) _ (c .before .before .g .given .1) (c .halted3 .result) (c .halted3 .ensures))
+
+cast-lay : tie.Need-cast-lay Inv-loop μ-loop
+cast-lay c = omega (arith, decode-low _ _ _ _ _ (sym (c .before .before .before .before .decode .ensures) ∙ c .before .before .g2 .given .1) .first)
+
+cast-lay-2 : tie.Need-cast-lay-2 Inv-loop μ-loop
+cast-lay-2 c = omega (arith, decode-low _ _ _ _ _ (sym (c .before .before .before .before .decode .ensures) ∙ c .before .before .g2 .given .1) .second)
+
+cast-lay-3 : tie.Need-cast-lay-3 Inv-loop μ-loop
+cast-lay-3 c = omega (arith, decode-low _ _ _ _ _ (sym (c .before .before .before .before .decode .ensures) ∙ c .before .before .g2 .given .1) .third)
 
 lay-requires : tie.Need-lay-requires Inv-loop μ-loop
 lay-requires c κs = (c .before .before .before .before .before .before .before .before .before .loop .inv .held .size, omega (arith, c .before .before .before .before .before .before .before .before .before .loop .inv .low))
@@ -185,12 +195,12 @@ returns-4 c = set-read _ _ _ _ _ _ _ (toZ-ofZ (c .before .before .before .before
 pub read-exponents-spec : {M : Type 1} → statement M
 read-exponents-spec =
     tie.close (tie.spec Inv-loop μ-loop (λ c κs. search needs) mul-step (λ c κs. search needs) (λ c κs. search needs)
-    (λ c. search needs) start-of-requires begin-requires loop-holds cast-if1 add-if1 (λ c κs. search needs)
-    same-length same-length-2 same-length-3 same-length-4 same-length-5 same-length-6 returns (λ c κs. search needs)
-    same-length-7 same-length-8 same-length-9 same-length-10 same-length-11 same-length-12 returns-2 bits-at-requires
+    (λ c. search needs) start-of-requires begin-requires loop-holds cast-if1 add-if1 (λ c κs. search needs) same-length
+    same-length-2 same-length-3 same-length-4 same-length-5 same-length-6 returns (λ c κs. search needs) same-length-7
+    same-length-8 same-length-9 same-length-10 same-length-11 same-length-12 returns-2 bits-at-requires
     slice-write-names slice-set-from-block mul-index slice-set-from-index mul-firsts slice-write-firsts mul-widths
-    slice-write-widths mul-values slice-write-values add-p add-n cast-decode (λ c κs. search needs)
-    (λ c. search needs) (λ c κs. search needs) same-length-13 same-length-14 same-length-15 same-length-16
-    same-length-17 same-length-18 returns-3 (λ c. search needs) lay-requires add-bin sub-left loop-less loop-again
+    slice-write-widths mul-values slice-write-values add-p add-n decode-requires (λ c. search needs)
+    (λ c κs. search needs) same-length-13 same-length-14 same-length-15 same-length-16 same-length-17 same-length-18
+    returns-3 (λ c. search needs) cast-lay cast-lay-2 cast-lay-3 lay-requires add-bin sub-left loop-less loop-again
     (λ c κs. search needs) same-length-19 same-length-20 same-length-21 same-length-22 same-length-23 same-length-24
     returns-4)
