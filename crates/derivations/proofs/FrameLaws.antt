@@ -19,10 +19,6 @@ pub modes : length nfchans ≡ 8
 unfolding nfchans
 modes = refl
 
--- a number that is none of the first eight
-pub past-four : (n k : ℕ) → k ≤ n → (n ≡ k → ⊥) → (n ≡ k + 1 → ⊥) → (n ≡ k + 2 → ⊥) → (n ≡ k + 3 → ⊥) → k + 4 ≤ n
-past-four n k l a b c d = omega arith
-
 pub no-mode : (n : ℕ) → 8 ≤ n → 0 ≡ getD nfchans n 0
 no-mode n h = sym (getD-past nfchans n (rw modes h))
 

@@ -45,16 +45,11 @@ pub fn numblks(cells: &mut [u16; 1024])
 fn channels_of(acmod: u16) -> u32
     ensures { λ r. ⌜ r ≡ getD table acmod 0 ⌝ }
 {
-    match acmod {
-        0 => 2,
-        1 => 1,
-        2 => 2,
-        3 => 3,
-        4 => 3,
-        5 => 4,
-        6 => 4,
-        7 => 5,
-        _ => 0,
+    let modes = tables::nfchans();
+    if acmod < 8 {
+        wide(modes[acmod as usize])
+    } else {
+        0
     }
 }
 

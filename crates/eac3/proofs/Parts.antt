@@ -32,8 +32,8 @@ use Rattle.annex.specs.Tail.{tail}
 use Rattle.annex.specs.Frame.{start, tailNames, bytesOf, eac3}
 use Rattle.annex.proofs.Header.{frmsiz-is}
 use Rattle.annex.proofs.Tails.{Outside, rows-tail}
-use Rattle.eac3.specs.Answer.{answered, answerBy, answerOf, Called, refusalFrom, answerFrom}
-use Rattle.eac3.specs.Parts.{placed, followed, stoppedBy, readOf}
+use Rattle.eac3.specs.Answer.{answered, answerBy, answerOf, numberOf, placeOf, countOf, numberIn, Called}
+use Rattle.eac3.specs.Parts.{placed, followed, stoppedBy, readOf, refusalFrom, answerFrom}
 use Rattle.eac3.specs.declared.answer.Answer.{Answer}
 
 followed-then : (c : Cursor) (st : State) (m : Room) (f : State → ℕ → Outcome State)
@@ -182,19 +182,44 @@ answer-from c st m = go (c .stopped)
     go true = refl
     go false = refl
 
+-- number, place and count of an outcome's answer
+number-by : (r : Result State) (p n : ℕ) → numberOf (answerBy r p n) ≡ numberIn r
+number-by (accepted st) p n = refl
+number-by (refused k) p n = refl
+
+place-by : (r : Result State) (p n k : ℕ) → r ≡ refused k → placeOf (answerBy r p n) ≡ p
+place-by (accepted st) p n k e = absurd (let z : _≡_ {A = ℕ} 0 1 = cc in omega arith)
+place-by (refused j) p n k e = refl
+
+count-by : (r : Result State) (p n : ℕ) → countOf (answerBy r p n) ≡ n
+count-by (accepted st) p n = refl
+count-by (refused k) p n = refl
+
 module _ (s : List ℕ) (m : Room) where
+  called : {a : Answer} {mu : Room} → a ≡ answerOf (answered s m) → mu ≡ answered s m .left → Called s m a mu
+  unfolding answerOf
+  called {a} {mu} e l =
+      let o = answered s m in
+      record {
+        answer = e;
+        number = ap numberOf e ∙ number-by (o .result) (o .place) (o .count);
+        place = λ k f. ap placeOf e ∙ place-by (o .result) (o .place) (o .count) k f;
+        count = ap countOf e ∙ count-by (o .result) (o .place) (o .count);
+        left = l;
+      }
+
   pub whole-answer : (c : Cursor) (st : State) (mu : Room) (a : Answer) → 6 ≤ length s → outcome c st mu ≡ placed 0 m (readOf s) → a ≡ answerFrom c (st .cells)
       → Called s m a mu
   unfolding parse readOf eac3
   whole-answer c st mu a h e ea =
       let z : size m - 0 ≡ size m = omega arith in
       let w : outcome c st mu ≡ answered s m = e ∙ ap (λ k. into 0 m (cut k (readOf s))) z ∙ rw (le-leb 6 (length s) h) refl in
-      record { answer = ea ∙ answer-from c st mu ∙ ap answerOf w; left = ap (λ (o : Out State). o .left) w }
+      called (ea ∙ answer-from c st mu ∙ ap answerOf w) (ap (λ (o : Out State). o .left) w)
 
   pub short-answer : (c : Cursor) (a : Answer) → length s < 6 → c ≡ haltedAt 0 0 1 → a ≡ refusalFrom c → Called s m a m
   unfolding parse answerOf cut fill
   short-answer c a h k e =
-      record { answer = rw (e, k, lt-leb 6 (length s) h) refl; left = rw (lt-leb 6 (length s) h) refl }
+      called (rw (e, k, lt-leb 6 (length s) h) refl) (rw (lt-leb 6 (length s) h) refl)
 
 -- a record at the count n, and then the refusal k at the place next
 abbrev refusedAfter : Field → ℕ → ℕ → ℕ → Room → Out State

@@ -1,14 +1,12 @@
 -- What the entry answers: the outcome of the frame's definition, with its records in the room.
 use mathlib.Core.Path.{_≡_}
-use mathlib.Core.Bool.{true, false, cond}
+use mathlib.Core.Bool.{false}
 use mathlib.Core.List.{List}
 use Prim.Native.Nat.{ℕ, _+_, _*_, _/_}
 use lib.ListN.{replicate}
 use Rattle.reading.specs.Frame.{parse}
 use Rattle.reading.specs.Run.{Result, accepted, refused}
 use Rattle.reading.specs.Room.{Room, size, cut, Out, into}
-use Rattle.syntax.specs.Records.{resultOf}
-use Rattle.syntax.specs.declared.Cursor.{Cursor}
 use Rattle.cells.specs.Cells.{State, cellOf}
 use Rattle.cells.specs.Names.{ACMOD, AHT-TAGS, AHTINU, AUDIO-END, BLOCK-STARTS, BSID, CPL-BLOCKS, FSCOD, LFEON, MANTISSA-STARTS, NUMBLKS, SPX-BLOCKS, STRMTYP, SUBSTREAMID}
 use Rattle.derivations.specs.Blocks.{flagOf}
@@ -82,18 +80,6 @@ answerBy (refused k) p n = record { verdict = Refused k (placeAt p) n; frame = n
 unfoldable pub answerOf : Out State → Answer
 answerOf o = answerBy (o .result) (o .place) (o .count)
 
--- a call of the entry with a buffer and a room: the answer that it gives, and the room then
-pub record Called (s : List ℕ) (m : Room) (a : Answer) (m′ : Room) : Type 0 where
-  pub answer : a ≡ answerOf (answered s m)
-  pub left : m′ ≡ answered s m .left
-
--- the answer of a cursor that is stopped, which needs no cells; the answer of any
-abbrev pub refusalFrom : Cursor → Answer
-refusalFrom c = record { verdict = Refused (c .number) (c .at) (c .count); frame = nothing }
-
-abbrev pub answerFrom : Cursor → List ℕ → Answer
-answerFrom c m = cond (c .stopped) (refusalFrom c) (record { verdict = Accepted; frame = frameOf m (c .at .0) (c .count) })
-
 -- document 01's number of an answer, 0 for an accepted frame; its place; and the records that were written
 abbrev pub numberBy : Verdict → ℕ
 numberBy Accepted = 0
@@ -115,3 +101,15 @@ countBy (Refused k p n) f = n
 
 abbrev pub countOf : Answer → ℕ
 countOf a = countBy (a .verdict) (a .frame)
+
+-- a call of the entry with a buffer and a room: the answer that it gives, with document 01's number, place and count, and the room then
+abbrev pub numberIn : Result State → ℕ
+numberIn (accepted st) = 0
+numberIn (refused k) = k
+
+pub record Called (s : List ℕ) (m : Room) (a : Answer) (m′ : Room) : Type 0 where
+  pub answer : a ≡ answerOf (answered s m)
+  pub number : numberOf a ≡ numberIn (answered s m .result)
+  pub place : (k : ℕ) → answered s m .result ≡ refused k → placeOf a ≡ answered s m .place
+  pub count : countOf a ≡ answered s m .count
+  pub left : m′ ≡ answered s m .left

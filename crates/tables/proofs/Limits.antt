@@ -8,7 +8,7 @@ use lib.IntN.{ℤ, pos, negsuc}
 use lib.ListN.{getD}
 use lib.Signed.{leZ, _≤ℤ_, leZ-yes}
 use Rattle.tables.specs.BitAllocation.{slowdec, fastdec, slowgain, dbpbtab, floortab, fastgain, hth, baptab, hebaptab}
-use Rattle.tables.specs.Small.{nfchans, bapBits, vqBits, gaqBits, frmexpstr}
+use Rattle.tables.specs.Small.{bapBits}
 use Rattle.tables.proofs.Rule.{at-most, both, both-left, both-right}
 
 pub slowdec-high : (k : ℕ) → getD slowdec k 0 ≤ 21
@@ -44,25 +44,9 @@ pub hebap-at-most-19 : (k : ℕ) → getD hebaptab k 0 ≤ 19
 unfolding hebaptab
 hebap-at-most-19 = at-most 19 hebaptab tt
 
-pub nfchans-high : (k : ℕ) → getD nfchans k 0 ≤ 5
-unfolding nfchans
-nfchans-high = at-most 5 nfchans tt
-
 pub bapBits-high : (k : ℕ) → getD bapBits k 0 ≤ 16
 unfolding bapBits
 bapBits-high = at-most 16 bapBits tt
-
-pub vqBits-high : (k : ℕ) → getD vqBits k 0 ≤ 9
-unfolding vqBits
-vqBits-high = at-most 9 vqBits tt
-
-pub gaqBits-high : (k : ℕ) → getD gaqBits k 0 ≤ 16
-unfolding gaqBits
-gaqBits-high = at-most 16 gaqBits tt
-
-pub frmexpstr-high : (k : ℕ) → getD frmexpstr k 0 ≤ 3
-unfolding frmexpstr
-frmexpstr-high = at-most 3 frmexpstr tt
 
 -- every floor lies from -2048 to 752
 abbrev between : List ℤ → Bool

@@ -15,20 +15,17 @@ use bitalloc_tables::MASKTAB;
 use bitalloc_tables::POINTERS;
 use bitalloc_tables::SLOW_DECAY;
 use bitalloc_tables::SLOW_GAIN;
-use small_tables::BAP_BITS;
 use small_tables::DEF_CPL_BNDSTRC;
 use small_tables::DEF_SPX_BNDSTRC;
 use small_tables::FRAME_EXPSTR;
-use small_tables::GAQ_BITS;
 use small_tables::NFCHANS;
-use small_tables::VQ_BITS;
 ghost use mathlib.Core.Path.{_≡_};
 ghost use mathlib.Core.List.{_++_};
 ghost use lib.IntN.{pos};
 ghost use lib.ListN.{getD};
 ghost use Rattle.tables.specs.BitAllocation.{slowdec, fastdec, slowgain, dbpbtab, floortab, fastgain, bndend, masktab as maskTab, latab, hth, baptab, hebaptab};
 ghost use Rattle.tables.specs.Steps.{steps};
-ghost use Rattle.tables.specs.Small.{nfchans as nfChans, bapBits, vqBits, gaqBits, frmexpstr, defcplbndstrc, defspxbndstrc};
+ghost use Rattle.tables.specs.Small.{nfchans as nfChans, frmexpstr, defcplbndstrc, defspxbndstrc};
 
 // Log addition.
 pub fn log_add() -> [u8; 256]
@@ -65,28 +62,11 @@ pub fn pointers() -> [u8; 1024]
     POINTERS
 }
 
+// Full bandwidth channels, at acmod.
 pub fn nfchans() -> [u8; 8]
     ensures { λ r. ⌜ r ≡ nfChans ⌝ }
 {
     NFCHANS
-}
-
-pub fn bap_bits() -> [u8; 16]
-    ensures { λ r. ⌜ r ≡ bapBits ⌝ }
-{
-    BAP_BITS
-}
-
-pub fn vq_bits() -> [u8; 8]
-    ensures { λ r. ⌜ r ≡ vqBits ⌝ }
-{
-    VQ_BITS
-}
-
-pub fn gaq_bits() -> [u8; 12]
-    ensures { λ r. ⌜ r ≡ gaqBits ⌝ }
-{
-    GAQ_BITS
 }
 
 // Six strategies for each code, at 6 * code + block.

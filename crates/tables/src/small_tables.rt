@@ -1,16 +1,7 @@
-// The small tables of the syntax and of the mantissas. `specs/Small.antt` says which each is.
+// The small tables of the syntax. `specs/Small.antt` says which each is.
 
 // Full bandwidth channels by acmod.
 pub const NFCHANS: [u8; 8] = [2, 1, 2, 3, 3, 4, 4, 5];
-
-// Bits of a mantissa by bap, 0 where they come in groups.
-pub const BAP_BITS: [u8; 16] = [0, 0, 0, 3, 0, 4, 5, 6, 7, 8, 9, 10, 11, 12, 14, 16];
-
-// Bits of a vector index by hebap.
-pub const VQ_BITS: [u8; 8] = [0, 2, 3, 4, 5, 7, 8, 9];
-
-// Bits of a mantissa by hebap - 8.
-pub const GAQ_BITS: [u8; 12] = [3, 4, 5, 6, 7, 8, 9, 10, 11, 12, 14, 16];
 
 // Strategies of six blocks for each code.
 pub const FRAME_EXPSTR: [u8; 192] = [
