@@ -3,15 +3,18 @@ use mathlib.Core.Path.{_≡_, refl, ap, sym, subst, _∙_}
 use mathlib.Core.Bool.{Bool, true, false, _&&_, not, cond}
 use mathlib.Core.List.{List, [], _∷_, _++_}
 use mathlib.Core.Logic.{by-cases}
-use Prim.Native.Nat.{ℕ, zero, suc, _+_, _-_, _*_, _/_, _%_, _≤_, _<_}
+use Prim.Native.Nat.{ℕ, zero, suc, _+_, _-_, _*_, _/_, _%_, _≤_, _<_, min}
 use native.Mathlib.Omega.{arith}
 use native.Mathlib.Decide.{ℕ-discrete, decLt}
 use lib.Dec.{eqb, ltb}
 use lib.ListN.{length, getD, take, drop, set, replicate, length-set, length-replicate, getD-replicate}
 use lib.Seq.{ext-getD, getD-set-same, getD-set-other, getD-take, getD-drop}
-use borrow.Author.Tests.{eqb-true, ltb-true, ltb-false, not-false}
+use borrow.Author.Tests.{eqb-true, eq-eqb, ne-eqb, ltb-true, ltb-false, not-false}
 use Rattle.tables.specs.BitAllocation.{fastgain}
-use Rattle.alloc.specs.Allocation.{tab, allocation, leakOf}
+use Rattle.tables.proofs.Limits.{fastgain-high}
+use Rattle.alloc.specs.Allocation.{tab, allocation, leakOf, fastOf, slowOf}
+use Rattle.alloc.specs.Premises.{Channelled}
+use Rattle.alloc.proofs.Codes.{codes-leak}
 use Rattle.alloc.specs.Shares.{sharesOf}
 use Rattle.alloc.specs.declared.Params.{Params}
 use Rattle.alloc.specs.declared.Channel.{Channel}
@@ -20,20 +23,21 @@ use Rattle.alloc.specs.declared.Leak.{Leak}
 use Rattle.alloc.specs.declared.Leak.the-variants.{Absent}
 use Rattle.alloc.specs.declared.Pointers.{Pointers}
 use Rattle.alloc.specs.declared.Pointers.the-variants.{Bap, Hebap}
-use Rattle.slots.specs.Slots.{requestedOf, pointer}
+use Rattle.slots.specs.Slots.{rangeOf, requestedOf, pointer}
+use Rattle.slots.specs.declared.Range.{Range}
 use Rattle.slots.specs.declared.Shape.{Shape}
 use Rattle.mantissas.specs.Tally.{aloneOf, countOf, packed, tallyOf, shareOf}
 use Rattle.mantissas.proofs.TallyLaws.{share-at, total-is}
 use Rattle.allocation.proofs.Unmet.{pointer-within}
-use Rattle.allocation.specs.State.{segmentsOf, silentOf, channelOf, expsIn, pointedOf, pointersOf, pointSlots, kindOf, leakFor, paramsFor}
-use Rattle.allocation.specs.Coded.{silenced}
-use Rattle.allocation.specs.Memo.{byteOf, eightIn, Short, Packs, startBy, endBy, channelBy, paramsBy, leakBy, SameLeaks, deltasBy, allocationBy, Says, sourceAt, Tallies, Memo, staleOf, Kept, Noted, Stale, Passes}
+use Rattle.allocation.specs.State.{eightOf, segmentsBy, segmentsOf, Alike, silentOf, channelOf, expsIn, pointedOf, pointSlot, pointSlots, kindOf, leakFor, paramsFor}
+use Rattle.allocation.specs.Coded.{Coded, silenced, binsOf}
+use Rattle.allocation.specs.Memo.{byteOf, eightIn, Packs, kindBy, startBy, endBy, channelBy, paramsBy, leakBy, deltasBy, allocationBy, CodedBy, manyOf, Tells, Owned, Owns, Within, Words, deltasOf, Says, sourceAt, Tallies, Memo, staleOf, Kept, Noted, Stale, pointBy, pointsBy, Passes}
 use Rattle.allocation.specs.declared.Codes.{Codes}
 use Rattle.allocation.specs.declared.AllocState.{AllocState}
 use Rattle.allocation.specs.declared.Segments.{Segments}
 use Rattle.allocation.specs.declared.memo.Source.{Source}
 use Rattle.slots.proofs.Tests.{both}
-use Rattle.allocation.proofs.StateLaws.{no-deltas, part-width, part-length, pointers-are, pointers-length, pointed-length, pointed-at, pointed-apart, pointed-there, slot-asked, slot-not-asked, slots-done, slots-next}
+use Rattle.allocation.proofs.StateLaws.{allocation-alike, allocation-length, part-width, part-length, pointers-are, pointed-length, pointed-at, pointed-apart, pointed-there, slot-asked, slot-not-asked}
 
 -- bytes of a word
 byte-here : (b r : ℕ) → b < 256 → byteOf (b + 256 * r) 0 ≡ b
@@ -70,12 +74,6 @@ pub word-packs : (a b c d e f g h a′ b′ c′ d′ e′ f′ g′ h′ : ℕ)
 word-packs a b c d e f g h a′ b′ c′ d′ e′ f′ g′ h′ ea eb ec ed ee ef eg eh la lb lc ld le lf lg lh =
     packs _ a b c d e f g h (omega arith) (omega arith) (omega arith) (omega arith) (omega arith) (omega arith) (omega arith) (omega arith) (omega arith)
 
-pub own-packs : (n k start end f x y w n′ k′ a b e : ℕ) → n ≤ 8 → n′ ≡ (n + 1) % 256 → k′ ≡ k → a ≡ start % 256 → b ≡ start / 256 % 256 → e ≡ end % 256
-    → Packs (n′ ∷ k′ ∷ a ∷ b ∷ e ∷ f ∷ x ∷ y ∷ []) w → Packs ((n + 1) ∷ k ∷ start % 256 ∷ start / 256 % 256 ∷ end % 256 ∷ f ∷ x ∷ y ∷ []) w
-own-packs n k start end f x y w n′ k′ a b e h en ek ea eb ee p =
-    let z : n + 1 ≡ n′ = omega arith in
-    rw (z, ← ek, ← ea, ← eb, ← ee) p
-
 -- eight elements of a list
 pub packs-list : (xs : List ℕ) (w a b c d e f g h : ℕ) → a ≡ getD xs 0 0 → b ≡ getD xs 1 0 → c ≡ getD xs 2 0 → d ≡ getD xs 3 0 → e ≡ getD xs 4 0 → f ≡ getD xs 5 0 → g ≡ getD xs 6 0 → h ≡ getD xs 7 0
     → Packs (a ∷ b ∷ c ∷ d ∷ e ∷ f ∷ g ∷ h ∷ []) w → Packs xs w
@@ -106,76 +104,119 @@ packs-is xs w n p = ext-getD 0 (eightIn w) xs (sym n) (λ k l. go k l)
     go (suc (suc (suc (suc (suc (suc (suc zero))))))) l = p .bytes 7 l
     go (suc (suc (suc (suc (suc (suc (suc (suc k)))))))) l = absurd (let z : ⊥ = omega arith in z)
 
--- words say the arguments
+deltas-is : (n n′ : ℕ) (o l b o′ l′ b′ : List ℕ) → n ≡ n′ → o ≡ o′ → l ≡ l′ → b ≡ b′ → _≡_ {A = Deltas} (record { n = n; offset = o; len = l; ba = b }) (record { n = n′; offset = o′; len = l′; ba = b′ })
+deltas-is n n′ o l b o′ l′ b′ p q r s = rw (p, q, r, s)
+
+leak-low : (t : Bool) (f s : ℕ) → fastOf (leakOf f s) ≤ 2560 → slowOf (leakOf f s) ≤ 2560 → (fastOf (cond t (leakOf f s) Absent) ≤ 2560) × (slowOf (cond t (leakOf f s) Absent) ≤ 2560)
+leak-low true f s g h = (g, h)
+leak-low false f s g h = (omega arith, omega arith)
+
+by-length : (slot : ℕ) (s : Source) (x : List ℕ) → length (allocationBy slot s x) ≡ 256
+unfolding allocationBy
+by-length slot s x = allocation-length (kindBy (s .own)) x (channelBy (s .own)) (paramsBy (s .common)) (leakBy slot (s .common)) (deltasBy s)
+
+-- no bins and no segments
+zero-within : (slot : ℕ) → Within 0 slot
+unfolding byteOf
+zero-within slot = record { ends = omega arith; many = omega arith; none = λ h. absurd (omega arith) }
+
+some : (w n : ℕ) → byteOf w 0 ≡ n + 1 → (w ≡ 0 → ⊥)
+unfolding byteOf
+some w n e f = omega arith
+
+-- the word of what all slots have in common
+module _ (q : Codes) (st : AllocState) (fscod w : ℕ) (p : Packs (q .sdcycod ∷ q .fdcycod ∷ q .sgaincod ∷ q .dbpbcod ∷ q .floorcod ∷ fscod ∷ st .cplfleak ∷ st .cplsleak ∷ []) w) where
+  common-params : paramsBy w ≡ paramsFor q fscod
+  common-params =
+      rw (p .bytes 0 (omega arith), p .bytes 1 (omega arith), p .bytes 2 (omega arith), p .bytes 3 (omega arith), p .bytes 4 (omega arith), p .bytes 5 (omega arith))
+
+  common-leak : (slot : ℕ) → leakBy slot w ≡ leakFor st slot
+  unfolding leakFor
+  common-leak slot = rw (p .bytes 6 (omega arith), p .bytes 7 (omega arith))
+
+  pub common-coded : Coded st fscod → CodedBy w
+  common-coded c = record { fast = rw (p .bytes 6 (omega arith)) (c .fast); slow = rw (p .bytes 7 (omega arith)) (c .slow); rate = rw (p .bytes 5 (omega arith)) (c .rate) }
+
+-- the word of what a slot has of its own
 kind-is : (b : Bool) (x : ℕ) → x ≡ cond b 1 0 → cond (eqb x 1) Hebap Bap ≡ cond b Hebap Bap
 kind-is true x e = rw e
 kind-is false x e = rw e
 
-channel-is : (c : Channel) (a b e f g : ℕ) → a ≡ c .start → b ≡ c .end → e ≡ c .fgain → f ≡ c .csnroffst → g ≡ c .fsnroffst
-    → _≡_ {A = Channel} (record { start = a; end = b; fgain = e; csnroffst = f; fsnroffst = g }) c
-channel-is c a b e f g p q r s t = rw (p, q, r, s, t)
+channel-is : (t : Bool) (r : Range) (c : Channel) (a b f x y : ℕ) → a ≡ binsOf t r .start → b ≡ binsOf t r .end → r .start ≡ c .start → r .end ≡ c .end → f ≡ c .fgain → x ≡ c .csnroffst → y ≡ c .fsnroffst
+    → _≡_ {A = Channel} (record { start = a; end = b; fgain = f; csnroffst = x; fsnroffst = y }) (silenced t c)
+channel-is true r c a b f x y ea eb es ee ef ex ey = rw (ea, eb, ef, ex, ey)
+channel-is false r c a b f x y ea eb es ee ef ex ey = rw (ea, eb, es, ee, ef, ex, ey)
 
-leak-is : (b : Bool) (f s f′ s′ : ℕ) → f′ ≡ f → s′ ≡ s → cond b (leakOf f′ s′) Absent ≡ cond b (leakOf f s) Absent
-leak-is b f s f′ s′ g h = rw (g, h)
+pub own-tells : (st : AllocState) (shape : Shape) (n : List ℕ) (silent : Bool) (slot w m k a b e : ℕ) (r : Range) (t : Bool) → silent ≡ silentOf st shape
+    → m ≡ manyOf n slot → t ≡ getD (shape .ahtinu) slot false → k ≡ cond t 1 0 → r ≡ binsOf silent (rangeOf shape slot) → r .end ≤ 253
+    → a ≡ r .start % 256 → b ≡ r .start / 256 → e ≡ r .end % 256
+    → Packs ((m + 1) ∷ k ∷ a ∷ b ∷ e ∷ getD (st .fgaincod) slot 0 ∷ st .csnroffst ∷ getD (st .fsnroffst) slot 0 ∷ []) w → Tells w st shape n slot
+unfolding kindOf channelOf
+own-tells st shape n silent slot w m k a b e r t es em et ek er he ea eb ee p =
+    let starts : startBy w ≡ r .start = let x : byteOf w 2 ≡ a = p .bytes 2 (omega arith) in let y : byteOf w 3 ≡ b = p .bytes 3 (omega arith) in omega arith in
+    let ends : endBy w ≡ r .end = let x : byteOf w 4 ≡ e = p .bytes 4 (omega arith) in omega arith in
+    record {
+      many = p .bytes 0 (omega arith) ∙ ap (λ x. x + 1) em;
+      kind = kind-is t (byteOf w 1) (p .bytes 1 (omega arith) ∙ ek) ∙ ap (λ x. cond x Hebap Bap) et;
+      channel = channel-is silent (rangeOf shape slot) (channelOf st shape slot) _ _ _ _ _ (starts ∙ ap (λ x. x .start) er) (ends ∙ ap (λ x. x .end) er) refl refl
+          (ap (λ x. getD fastgain x 0) (p .bytes 5 (omega arith))) (p .bytes 6 (omega arith)) (p .bytes 7 (omega arith)) ∙ ap (λ x. silenced x (channelOf st shape slot)) es;
+      ends = rw ends he;
+    }
 
-deltas-is : (d : Deltas) (n : ℕ) (o l b : List ℕ) → n ≡ d .n → o ≡ d .offset → l ≡ d .len → b ≡ d .ba → _≡_ {A = Deltas} (record { n = n; offset = o; len = l; ba = b }) d
-deltas-is d n o l b p q r s = rw (p, q, r, s)
+pub owned : (own : ℕ) (st : AllocState) (shape : Shape) (n : List ℕ) (slot : ℕ) (t : Bool) → t ≡ requestedOf shape slot → t ≡ true → Tells own st shape n slot → Owned own st shape n slot
+owned own st shape n slot t e f h = record { asked = λ g. h; none = λ g. absurd (let z : _≡_ {A = Bool} true false = sym f ∙ e ∙ g in let y : _≡_ {A = ℕ} 0 1 = cc in omega arith) }
 
-halves : (x a b : ℕ) → x < 65536 → a ≡ x % 256 → b ≡ x / 256 % 256 → a + 256 * b ≡ x
-halves x a b h e f = omega arith
+pub not-owned : (st : AllocState) (shape : Shape) (n : List ℕ) (slot : ℕ) (t : Bool) → t ≡ requestedOf shape slot → t ≡ false → Owned 0 st shape n slot
+not-owned st shape n slot t e f = record { asked = λ g. absurd (let z : _≡_ {A = Bool} false true = sym f ∙ e ∙ g in let y : _≡_ {A = ℕ} 0 1 = cc in omega arith); none = λ g. refl }
 
-whole : (x a : ℕ) → x ≤ 253 → a ≡ x % 256 → a ≡ x
-whole x a h e = omega arith
+module _ (st : AllocState) (shape : Shape) (n : List ℕ) where
+  pub owns : (a b c d e f g : ℕ) → Owned a st shape n 0 → Owned b st shape n 1 → Owned c st shape n 2 → Owned d st shape n 3 → Owned e st shape n 4 → Owned f st shape n 5 → Owned g st shape n 6
+      → Owns (a ∷ b ∷ c ∷ d ∷ e ∷ f ∷ g ∷ []) st shape n
+  owns a b c d e f g oa ob oc od oe of og = record { size = refl; at = λ k l. go k l }
+    where
+      go : (k : ℕ) → k < 7 → Owned (getD (a ∷ b ∷ c ∷ d ∷ e ∷ f ∷ g ∷ []) k 0) st shape n k
+      go zero l = oa
+      go (suc zero) l = ob
+      go (suc (suc zero)) l = oc
+      go (suc (suc (suc zero))) l = od
+      go (suc (suc (suc (suc zero)))) l = oe
+      go (suc (suc (suc (suc (suc zero))))) l = of
+      go (suc (suc (suc (suc (suc (suc zero)))))) l = og
+      go (suc (suc (suc (suc (suc (suc (suc k))))))) l = absurd (let z : ⊥ = omega arith in z)
 
-some : (w n : ℕ) → byteOf w 0 ≡ n + 1 → 0 < w
-unfolding byteOf
-some w n e = omega arith
+  many-small : (slot : ℕ) (t : Bool) → ltb slot 6 ≡ t → (cond t (min (getD n slot 0) 8) 0 ≤ 8) × (0 < cond t (min (getD n slot 0) 8) 0 → slot < 6)
+  many-small slot true e = (omega arith, λ h. ltb-true slot 6 e)
+  many-small slot false e = (omega arith, λ h. omega arith)
 
--- the word of what all slots have in common
-pub common-params : (q : Codes) (fscod x y w : ℕ) → Packs (q .sdcycod ∷ q .fdcycod ∷ q .sgaincod ∷ q .dbpbcod ∷ q .floorcod ∷ fscod ∷ x ∷ y ∷ []) w → paramsBy w ≡ paramsFor q fscod
-common-params q fscod x y w p =
-    rw (p .bytes 0 (omega arith), p .bytes 1 (omega arith), p .bytes 2 (omega arith), p .bytes 3 (omega arith), p .bytes 4 (omega arith), p .bytes 5 (omega arith))
+  owned-within : (own slot : ℕ) → Owned own st shape n slot → Within own slot
+  owned-within own slot o = go (requestedOf shape slot) refl
+    where
+      go : (t : Bool) → requestedOf shape slot ≡ t → Within own slot
+      go true e =
+          let h = o .asked e in
+          let m = many-small slot (ltb slot 6) refl in
+          record { ends = h .ends; many = let z = m .0 in let y = h .many in omega arith; none = λ x. m .1 (let y = h .many in omega arith) }
+      go false e = rw (o .none e) (zero-within slot)
 
-pub common-leaks : (st : AllocState) (a b c d e f w : ℕ) → Packs (a ∷ b ∷ c ∷ d ∷ e ∷ f ∷ st .cplfleak ∷ st .cplsleak ∷ []) w → SameLeaks w st
-common-leaks st a b c d e f w p = record { fast = p .bytes 6 (omega arith); slow = p .bytes 7 (omega arith) }
+  pub owns-words : (own : List ℕ) → Owns own st shape n → Words own
+  owns-words own o = record { size = o .size; at = λ k l. owned-within (getD own k 0) k (o .at k l) }
 
-module _ (st : AllocState) (shape : Shape) (slot : ℕ) (c : Channel) (d : Deltas) (s : Source) (t : Bool) (et : t ≡ getD (shape .ahtinu) slot false)
-    (hs : c .start < 65536) (he : c .end ≤ 253) (hg : c .fgain ≡ getD fastgain (getD (st .fgaincod) slot 0) 0)
-    (own : Packs ((d .n + 1) ∷ cond t 1 0 ∷ c .start % 256 ∷ c .start / 256 % 256 ∷ c .end % 256 ∷ getD (st .fgaincod) slot 0 ∷ c .csnroffst ∷ c .fsnroffst ∷ []) (s .own))
-    (leaks : SameLeaks (s .common) st) where
-  count : byteOf (s .own) 0 - 1 ≡ d .n
-  count = let z : byteOf (s .own) 0 ≡ d .n + 1 = own .bytes 0 (omega arith) in omega arith
+-- the five words say what they are made of
+module _ (own common : ℕ) (offset len ba : List ℕ) (slot : ℕ) where
+  pub says-none : own % 256 ≤ 1 → Says (record { own = own; common = common; offset = 0; len = 0; ba = 0 }) own common (deltasOf own offset len ba slot)
+  unfolding byteOf deltasOf
+  says-none h = record { own = refl; common = refl; segments = record { many = refl; rest = λ q. absurd (q (omega arith)) } }
 
-  start-is : startBy (s .own) ≡ c .start
-  start-is = halves (c .start) _ _ hs (own .bytes 2 (omega arith)) (own .bytes 3 (omega arith))
-
-  end-is : endBy (s .own) ≡ c .end
-  end-is = whole (c .end) _ he (own .bytes 4 (omega arith))
-
-  but-deltas : (x : List ℕ) → allocationBy slot s x ≡ allocation (kindOf shape slot) x c (paramsBy (s .common)) (leakFor st slot) (deltasBy s)
-  unfolding allocationBy kindOf leakFor
-  but-deltas x =
-      ap (λ y. allocation y x (channelBy s) (paramsBy (s .common)) (leakBy slot (s .common)) (deltasBy s)) (kind-is t (byteOf (s .own) 1) (own .bytes 1 (omega arith)) ∙ ap (λ b. cond b Hebap Bap) et)
-      ∙ ap (λ y. allocation (kindOf shape slot) x y (paramsBy (s .common)) (leakBy slot (s .common)) (deltasBy s))
-      (channel-is c _ _ _ _ _ start-is end-is (ap (λ y. getD fastgain y 0) (own .bytes 5 (omega arith)) ∙ sym hg) (own .bytes 6 (omega arith)) (own .bytes 7 (omega arith)))
-      ∙ ap (λ y. allocation (kindOf shape slot) x c (paramsBy (s .common)) y (deltasBy s)) (leak-is (eqb slot 5) (st .cplfleak) (st .cplsleak) _ _ (leaks .fast) (leaks .slow))
-
-  pub says-none : d .n ≡ 0 → Says slot s (kindOf shape slot) c (paramsBy (s .common)) (leakFor st slot) d
-  says-none e = record {
-    made = some (s .own) (d .n) (own .bytes 0 (omega arith));
-    start = start-is;
-    end = end-is;
-    is = λ x. but-deltas x ∙ no-deltas (kindOf shape slot) x c (paramsBy (s .common)) (leakFor st slot) (deltasBy s) d (count ∙ e) e;
-  }
-
-  pub says-all : Short d → Packs (d .offset) (s .offset) → Packs (d .len) (s .len) → Packs (d .ba) (s .ba)
-      → Says slot s (kindOf shape slot) c (paramsBy (s .common)) (leakFor st slot) d
-  says-all short po pl pb = record {
-    made = some (s .own) (d .n) (own .bytes 0 (omega arith));
-    start = start-is;
-    end = end-is;
-    is = λ x. but-deltas x ∙ ap (λ y. allocation (kindOf shape slot) x c (paramsBy (s .common)) (leakFor st slot) y)
-        (deltas-is d _ _ _ _ count (packs-is (d .offset) (s .offset) (short .offset) po) (packs-is (d .len) (s .len) (short .len) pl) (packs-is (d .ba) (s .ba) (short .ba) pb));
+  pub says-all : (x y z : ℕ) (xs ys zs : List ℕ) → xs ≡ eightOf offset (8 * slot) → ys ≡ eightOf len (8 * slot) → zs ≡ eightOf ba (8 * slot) → Packs xs x → Packs ys y → Packs zs z
+      → Says (record { own = own; common = common; offset = x; len = y; ba = z }) own common (deltasOf own offset len ba slot)
+  unfolding deltasOf
+  says-all x y z xs ys zs ex ey ez px py pz = record {
+    own = refl;
+    common = refl;
+    segments = record {
+      many = refl;
+      rest = λ q. deltas-is _ _ _ _ _ _ _ _ refl (packs-is _ x refl (rw (← ex) px)) (packs-is _ y refl (rw (← ey) py)) (packs-is _ z refl (rw (← ez) pz));
+    };
   }
 
 -- whether a slot is kept
@@ -403,112 +444,172 @@ module _ (memo exps exps′ baps : List ℕ) (slot : ℕ) (so : Memo memo exps b
         right = λ t b h. let k = kept-words w e t b h in other-right memo (cond w (set memo (6 * slot) 0) memo) exps exps′ baps baps so t b (k .1) (λ k l. refl) (held t b (k .0)) h;
       }
 
--- a slot of a block
-module _ (st : AllocState) (p : Params) (shape : Shape) (d : Segments) (slot : ℕ) (h : slot < 7) (silent : Bool) (eq : silent ≡ silentOf st shape)
-    (c : Channel) (ec : c ≡ silenced silent (channelOf st shape slot)) (s : Deltas) (es : s ≡ segmentsOf d slot)
-    (src : Source) (says : Says slot src (kindOf shape slot) c p (leakFor st slot) s) where
-  computed : (exps : List ℕ) → allocationBy slot src (expsIn exps slot) ≡ pointersOf st p shape d exps slot
-  computed exps = says .is (expsIn exps slot) ∙ pointers-are st p shape d exps slot silent eq c ec s es
+-- the pointers of a slot are computed, and noted, as the code does it: they go into the part that it lends, and it has their shares
+module _ (slot : ℕ) (h : slot < 7) (s : Source) (c : Channel) (ec : c ≡ channelBy (s .own)) (kind : Pointers) (ek : kind ≡ kindBy (s .own)) (l : Leak) (el : l ≡ leakBy slot (s .common))
+    (d : Deltas) (ed : d ≡ deltasBy s) (p : Params) (ep : p ≡ paramsBy (s .common)) (within : Within (s .own) slot) where
+  pub channelled : CodedBy (s .common) → Channelled c l d
+  channelled coded =
+      let k = codes-leak (byteOf (s .common) 6) (byteOf (s .common) 7) (coded .fast) (coded .slow) in
+      rw (ec, el, ed) (record { within = within .ends; fgain = fastgain-high _; fast = leak-low (eqb slot 5) _ _ (k .0) (k .1) .0; slow = leak-low (eqb slot 5) _ _ (k .0) (k .1) .1; segs = let z = within .many in omega arith })
 
-  -- its pointers are there already
-  there : (memo exps baps : List ℕ) → Memo memo exps baps → sourceAt memo slot ≡ src → pointedOf baps slot (pointersOf st p shape d exps slot) ≡ baps
-  there memo exps baps so e =
-      pointed-there baps (so .tallies .sized) slot h (pointersOf st p shape d exps slot) (pointers-length st p shape d exps slot)
-      (λ k l. so .right slot h (let z : getD memo (6 * slot) 0 ≡ src .own = ap (λ x. x .own) e in rw z (says .made)) k l
-      ∙ ap (λ x. getD (allocationBy slot x (expsIn exps slot)) k 0) e ∙ ap (λ x. getD x k 0) (computed exps))
+  module _ (old new exps baps ps shares : List ℕ) (t : ℕ) (so : Memo old exps baps)
+      (ps-are : ps ≡ allocation kind (take (256 * slot + 256 - 256 * slot) (drop (256 * slot) exps)) c p l d)
+      (t-is : t ≡ sharesOf shares (allocation kind (take (256 * slot + 256 - 256 * slot) (drop (256 * slot) exps)) c p l d) (c .start) (c .end - c .start))
+      (table : shares ≡ tab shareOf 0 256) (noted : Noted old new slot s t) where
+    abbrev computed : List ℕ
+    computed = allocationBy slot s (expsIn exps slot)
 
-  pub stale-kept : (memo : List ℕ) (t : Bool) → Kept t memo slot src → requestedOf shape slot ≡ true → Stale (not t) st p shape d memo slot
-  stale-kept memo t k r = record {
-    asked = λ e. r;
-    there = λ e exps baps so. slot-asked st p shape d exps slot baps r ∙ there memo exps baps so (k .same (not-false t e));
-  }
+    abbrev lent : List ℕ
+    lent = take (256 * slot) baps ++ (ps ++ drop (256 * slot + 256 - 256 * slot) (drop (256 * slot) baps))
 
-  -- or they are computed, and noted
-  module _ (old new exps baps baps′ : List ℕ) (tally : ℕ) (so : Memo old exps baps) (noted : Noted old new slot src tally) (eb : baps′ ≡ pointedOf baps slot (pointersOf st p shape d exps slot))
-      (et : tally ≡ packed (tallyOf baps′ slot (c .start) (c .end - c .start))) where
-    own-word : getD new (6 * slot) 0 ≡ src .own
+    are : allocation kind (take (256 * slot + 256 - 256 * slot) (drop (256 * slot) exps)) c p l d ≡ computed
+    unfolding allocationBy
+    are = rw (part-width slot, ek, ec, ep, el, ed)
+
+    long : length computed ≡ 256
+    long = by-length slot s (expsIn exps slot)
+
+    lent-is : lent ≡ pointedOf baps slot computed
+    unfolding pointedOf
+    lent-is = let z = part-width slot in let y : ps ≡ computed = ps-are ∙ are in rw (z, y)
+
+    share : (k : ℕ) → k < 256 → getD shares (getD computed k 0) 0 ≡ shareOf (pointer lent slot k)
+    unfolding pointer
+    share k h′ =
+        let v = getD computed k 0 in
+        let small : v ≤ 19 = rw (← are) (pointer-within kind (take (256 * slot + 256 - 256 * slot) (drop (256 * slot) exps)) c p l d k) in
+        ap (λ x. getD x v 0) table ∙ share-at v (omega arith) ∙ ap (λ x. shareOf x) (sym (ap (λ x. getD x (256 * slot + k) 0) lent-is ∙ pointed-at baps (so .tallies .sized) slot h computed long k h′))
+
+    tallied : t ≡ packed (tallyOf lent slot (startBy (s .own)) (endBy (s .own) - startBy (s .own)))
+    tallied =
+        t-is ∙ ap (λ x. sharesOf shares x (c .start) (c .end - c .start)) are
+        ∙ total-is lent slot (λ k. getD shares (getD computed k 0) 0) share (c .start) (c .end) (let z : c .end ≤ 253 = rw ec (within .ends) in omega arith)
+        ∙ ap (λ x. packed (tallyOf lent slot (x .start) (x .end - x .start))) ec
+
+    own-word : getD new (6 * slot) 0 ≡ s .own
     own-word = ap (λ x. x .own) (noted .source)
 
     words : (t : ℕ) → (t ≡ slot → ⊥) → (i : ℕ) → 6 * t ≤ i → i < 6 * t + 6 → getD new i 0 ≡ getD old i 0
     words t q i y z = by-cases (decLt t slot) (λ u. noted .before i (let w : i < 6 * slot = omega arith in w)) (λ u. noted .after i (let w : 6 * slot + 6 ≤ i = omega arith in w))
 
-    same : (t : ℕ) → t < 7 → (t ≡ slot → ⊥) → (k : ℕ) → k < 256 → getD baps′ (256 * t + k) 0 ≡ getD baps (256 * t + k) 0
-    same t b q k l = ap (λ x. getD x (256 * t + k) 0) eb ∙ pointed-apart baps (so .tallies .sized) slot h (pointersOf st p shape d exps slot) (pointers-length st p shape d exps slot) t b q k l
+    same : (t : ℕ) → t < 7 → (t ≡ slot → ⊥) → (k : ℕ) → k < 256 → getD lent (256 * t + k) 0 ≡ getD baps (256 * t + k) 0
+    same t b q k l = ap (λ x. getD x (256 * t + k) 0) lent-is ∙ pointed-apart baps (so .tallies .sized) slot h computed long t b q k l
 
     new-tally : (t : ℕ) → t < 7 → 0 < getD new (6 * t) 0 → Dec (t ≡ slot)
-        → getD new (6 * t + 5) 0 ≡ packed (tallyOf baps′ t (startBy (getD new (6 * t) 0)) (endBy (getD new (6 * t) 0) - startBy (getD new (6 * t) 0)))
-    new-tally t b g (yes q) = rw (q, own-word, says .start, says .end) (noted .tally ∙ et)
-    new-tally t b g (no q) = other-tally old new exps exps baps baps′ so t b (words t q) (same t b q) refl g
+        → getD new (6 * t + 5) 0 ≡ packed (tallyOf lent t (startBy (getD new (6 * t) 0)) (endBy (getD new (6 * t) 0) - startBy (getD new (6 * t) 0)))
+    new-tally t b g (yes q) = rw (q, own-word) (noted .tally ∙ tallied)
+    new-tally t b g (no q) = other-tally old new exps exps baps lent so t b (words t q) (same t b q) refl g
 
-    new-right : (t : ℕ) → t < 7 → 0 < getD new (6 * t) 0 → Dec (t ≡ slot) → (k : ℕ) → k < 256 → getD baps′ (256 * t + k) 0 ≡ getD (allocationBy t (sourceAt new t) (expsIn exps t)) k 0
+    new-right : (t : ℕ) → t < 7 → 0 < getD new (6 * t) 0 → Dec (t ≡ slot) → (k : ℕ) → k < 256 → getD lent (256 * t + k) 0 ≡ getD (allocationBy t (sourceAt new t) (expsIn exps t)) k 0
     new-right t b g (yes q) k l =
-        rw q (ap (λ x. getD x (256 * slot + k) 0) eb ∙ pointed-at baps (so .tallies .sized) slot h (pointersOf st p shape d exps slot) (pointers-length st p shape d exps slot) k l
-        ∙ sym (ap (λ x. getD (allocationBy slot x (expsIn exps slot)) k 0) (noted .source) ∙ ap (λ x. getD x k 0) (computed exps)))
-    new-right t b g (no q) k l = other-right old new exps exps baps baps′ so t b (words t q) (same t b q) refl g k l
+        rw q (ap (λ x. getD x (256 * slot + k) 0) lent-is ∙ pointed-at baps (so .tallies .sized) slot h computed long k l
+        ∙ sym (ap (λ x. getD (allocationBy slot x (expsIn exps slot)) k 0) (noted .source)))
+    new-right t b g (no q) k l = other-right old new exps exps baps lent so t b (words t q) (same t b q) refl g k l
 
-    memo-noted : Memo new exps baps′
-    memo-noted = record {
-      tallies = record {
-        size = noted .size ∙ so .tallies .size;
-        sized = ap (λ x. length x) eb ∙ pointed-length baps (so .tallies .sized) slot h (pointersOf st p shape d exps slot) (pointers-length st p shape d exps slot);
-        tally = λ t b g. new-tally t b g (ℕ-discrete t slot);
-      };
-      right = λ t b g. new-right t b g (ℕ-discrete t slot);
-    }
+    pub renewed : (lent ≡ pointedOf baps slot computed) × Memo new exps lent
+    renewed = (
+      lent-is,
+      record {
+        tallies = record {
+          size = noted .size ∙ so .tallies .size;
+          sized = ap (λ x. length x) lent-is ∙ pointed-length baps (so .tallies .sized) slot h computed long;
+          tally = λ t b g. new-tally t b g (ℕ-discrete t slot);
+        };
+        right = λ t b g. new-right t b g (ℕ-discrete t slot);
+      },
+    )
 
-  -- as the code does it: the pointers go into the part that it lends, and it has their shares
-  module _ (old new exps baps ps shares : List ℕ) (t : ℕ) (kind : Pointers) (ek : kind ≡ kindOf shape slot) (l : Leak) (el : l ≡ leakFor st slot) (so : Memo old exps baps) (he : c .end ≤ 253)
-      (ps-are : ps ≡ allocation kind (take (256 * slot + 256 - 256 * slot) (drop (256 * slot) exps)) c p l s)
-      (t-is : t ≡ sharesOf shares (allocation kind (take (256 * slot + 256 - 256 * slot) (drop (256 * slot) exps)) c p l s) (c .start) (c .end - c .start))
-      (table : shares ≡ tab shareOf 0 256) (noted : Noted old new slot src t) where
-    abbrev lent : List ℕ
-    lent = take (256 * slot) baps ++ (ps ++ drop (256 * slot + 256 - 256 * slot) (drop (256 * slot) baps))
+-- whether a slot is stale
+pub stale-none : (memo : List ℕ) (slot : ℕ) (s : Source) → s .own ≡ 0 → Stale false memo slot s
+stale-none memo slot s e = record { asked = λ f. absurd (let z : _≡_ {A = ℕ} 0 1 = cc in omega arith); kept = λ f h. absurd (omega arith) }
 
-    are : allocation kind (take (256 * slot + 256 - 256 * slot) (drop (256 * slot) exps)) c p l s ≡ pointersOf st p shape d exps slot
-    are = rw (part-width slot, ek, el) (pointers-are st p shape d exps slot silent eq c ec s es)
+pub stale-kept : (memo : List ℕ) (slot : ℕ) (s : Source) (t : Bool) → Kept t memo slot s → (s .own ≡ 0 → ⊥) → Stale (not t) memo slot s
+stale-kept memo slot s t k q = record { asked = λ e. omega arith; kept = λ e h. k .same (not-false t e) }
 
-    lent-is : lent ≡ pointedOf baps slot (pointersOf st p shape d exps slot)
-    unfolding pointedOf
-    lent-is = let z = part-width slot in let y : ps ≡ pointersOf st p shape d exps slot = ps-are ∙ are in rw (z, y)
+-- the pointers of a slot by the words
+module _ (common : ℕ) (offset len ba exps baps : List ℕ) (own slot : ℕ) (s : Source) (says : Says s own common (deltasOf own offset len ba slot)) where
+  said : (x : List ℕ) → allocationBy slot s x ≡ allocation (kindBy own) x (channelBy own) (paramsBy common) (leakBy slot common) (deltasOf own offset len ba slot)
+  unfolding allocationBy
+  said x =
+      allocation-alike (kindBy (s .own)) x (channelBy (s .own)) (paramsBy (s .common)) (leakBy slot (s .common)) (deltasBy s) (deltasOf own offset len ba slot) (says .segments)
+      ∙ rw (says .own, says .common)
 
-    small : (k : ℕ) → getD (pointersOf st p shape d exps slot) k 0 ≤ 19
-    small k = rw (← are) (pointer-within kind (take (256 * slot + 256 - 256 * slot) (drop (256 * slot) exps)) c p l s k)
+  pub said-some : 0 < s .own → pointBy common offset len ba exps own baps slot ≡ pointedOf baps slot (allocationBy slot s (expsIn exps slot))
+  unfolding pointBy
+  said-some h = let e : eqb own 0 ≡ false = ne-eqb own 0 (λ f. let z = says .own in omega arith) in rw e (ap (λ x. pointedOf baps slot x) (sym (said (expsIn exps slot))))
 
-    share : (k : ℕ) → k < 256 → getD shares (getD (pointersOf st p shape d exps slot) k 0) 0 ≡ shareOf (pointer lent slot k)
-    unfolding pointer
-    share k h′ =
-        let v = getD (pointersOf st p shape d exps slot) k 0 in
-        ap (λ x. getD x v 0) table ∙ share-at v (let z = small k in omega arith)
-        ∙ ap (λ x. shareOf x) (sym (ap (λ x. getD x (256 * slot + k) 0) lent-is ∙ pointed-at baps (so .tallies .sized) slot h (pointersOf st p shape d exps slot) (pointers-length st p shape d exps slot) k h′))
+  -- those that are there already
+  pub said-kept : slot < 7 → (t : Bool) (memo : List ℕ) → Stale t memo slot s → t ≡ false → Memo memo exps baps → pointBy common offset len ba exps own baps slot ≡ baps
+  unfolding pointBy
+  said-kept b t memo stale e so = by-cases (decLt 0 (s .own)) (λ h. said-some h ∙ pointed-there baps (so .tallies .sized) slot b (allocationBy slot s (expsIn exps slot)) (by-length slot s (expsIn exps slot)) (here h))
+      (λ h. let z : eqb own 0 ≡ true = eq-eqb own 0 (let y = says .own in omega arith) in rw z)
+    where
+      here : 0 < s .own → (k : ℕ) → k < 256 → getD baps (256 * slot + k) 0 ≡ getD (allocationBy slot s (expsIn exps slot)) k 0
+      here h k l =
+          let q = stale .kept e h in
+          so .right slot b (let z : getD memo (6 * slot) 0 ≡ s .own = ap (λ x. x .own) q in rw z h) k l ∙ ap (λ x. getD (allocationBy slot x (expsIn exps slot)) k 0) q
 
-    tallied : t ≡ packed (tallyOf lent slot (c .start) (c .end - c .start))
-    tallied =
-        t-is ∙ ap (λ x. sharesOf shares x (c .start) (c .end - c .start)) are
-        ∙ total-is lent slot (λ k. getD shares (getD (pointersOf st p shape d exps slot) k 0) 0) share (c .start) (c .end) (omega arith)
+-- slot by slot
+module _ (common : ℕ) (offset len ba exps own baps : List ℕ) (slot : ℕ) where
+  pub points-done : 7 ≤ slot → pointsBy common offset len ba exps own baps slot (7 - slot) ≡ baps
+  unfolding pointsBy
+  points-done h = let e : 7 - slot ≡ 0 = omega arith in rw e
 
-    pub renewed : (lent ≡ pointedOf baps slot (pointersOf st p shape d exps slot)) × Memo new exps lent
-    renewed = (lent-is, memo-noted old new exps baps lent t so noted lent-is tallied)
-
-pub stale-not-asked : (st : AllocState) (p : Params) (shape : Shape) (d : Segments) (memo : List ℕ) (slot : ℕ) (t : Bool) → t ≡ requestedOf shape slot → t ≡ false → Stale false st p shape d memo slot
-stale-not-asked st p shape d memo slot t r e = record { asked = λ f. absurd (never f); there = λ f exps baps so. slot-not-asked st p shape d exps slot baps (sym r ∙ e) }
-  where
-    never : false ≡ true → ⊥
-    never f = let z : _≡_ {A = ℕ} 0 1 = cc in omega arith
+  pub points-next : slot < 7 → (new : List ℕ) → pointBy common offset len ba exps (getD own slot 0) baps slot ≡ new
+      → pointsBy common offset len ba exps own baps slot (7 - slot) ≡ pointsBy common offset len ba exps own new (slot + 1) (7 - (slot + 1))
+  unfolding pointsBy
+  points-next h new e =
+      let f : 7 - slot ≡ suc (7 - (slot + 1)) = omega arith in
+      let g : slot + 1 ≡ suc slot = omega arith in
+      rw (f, ← e, g)
 
 -- slots that are passed, one after the other
-pub passes-none : (st : AllocState) (p : Params) (shape : Shape) (d : Segments) (memo : List ℕ) → Passes 0 st p shape d memo
-passes-none st p shape d memo = record { within = omega arith; there = λ exps baps so. refl }
+module _ (common : ℕ) (offset len ba own : List ℕ) where
+  pub passes-none : (memo : List ℕ) → Passes common offset len ba own 0 memo
+  passes-none memo = record { within = omega arith; there = λ exps baps so. refl }
 
-pub passes-on : (st : AllocState) (p : Params) (shape : Shape) (d : Segments) (memo : List ℕ) (slot : ℕ) → Passes slot st p shape d memo → slot < 7
-    → (t : Bool) → Stale t st p shape d memo slot → t ≡ false → Passes (slot + 1) st p shape d memo
-passes-on st p shape d memo slot so h t k e = record {
-  within = omega arith;
-  there = λ exps baps m. so .there exps baps m ∙ slots-next st p shape d exps baps slot h baps (k .there e exps baps m);
-}
+  pub passes-on : (slot : ℕ) (memo : List ℕ) → Passes common offset len ba own slot memo → slot < 7 → (s : Source) → Says s (getD own slot 0) common (deltasOf (getD own slot 0) offset len ba slot)
+      → (t : Bool) → Stale t memo slot s → t ≡ false → Passes common offset len ba own (slot + 1) memo
+  passes-on slot memo so h s says t stale e = record {
+    within = omega arith;
+    there = λ exps baps m. so .there exps baps m ∙ points-next common offset len ba exps own baps slot h baps (said-kept common offset len ba exps baps (getD own slot 0) slot s says h t memo stale e m);
+  }
 
-pub passes-all : (st : AllocState) (p : Params) (shape : Shape) (d : Segments) (memo exps baps : List ℕ) (slot : ℕ) → Passes slot st p shape d memo → 7 ≤ slot → Memo memo exps baps
-    → baps ≡ pointSlots st p shape d exps baps 0 7
-passes-all st p shape d memo exps baps slot so h m = sym (so .there exps baps m ∙ slots-done st p shape d exps baps slot h)
+-- what the words say is what the state says
+module _ (q : Codes) (st : AllocState) (shape : Shape) (fscod common : ℕ) (n offset len ba own : List ℕ) (owns : Owns own st shape n)
+    (p : Packs (q .sdcycod ∷ q .fdcycod ∷ q .sgaincod ∷ q .dbpbcod ∷ q .floorcod ∷ fscod ∷ st .cplfleak ∷ st .cplsleak ∷ []) common) (exps : List ℕ) where
+  abbrev d : Segments
+  d = segmentsBy n offset len ba
+
+  segments-are : (w slot : ℕ) → byteOf w 0 ≡ manyOf n slot + 1 → Alike (deltasOf w offset len ba slot) (segmentsOf d slot)
+  unfolding segmentsOf deltasOf
+  segments-are w slot = go (ltb slot 6)
+    where
+      go : (t : Bool) → byteOf w 0 ≡ cond t (min (getD n slot 0) 8) 0 + 1 → Alike (deltasOf w offset len ba slot)
+          (cond t (record { n = min (getD n slot 0) 8; offset = eightOf offset (8 * slot); len = eightOf len (8 * slot); ba = eightOf ba (8 * slot) }) (record { n = 0; offset = replicate 8 0; len = replicate 8 0; ba = replicate 8 0 }))
+      go true e = let z : byteOf w 0 - 1 ≡ min (getD n slot 0) 8 = omega arith in record { many = z; rest = λ h. deltas-is _ _ _ _ _ _ _ _ z refl refl refl }
+      go false e = record { many = omega arith; rest = λ h. absurd (h (omega arith)) }
+
+  point-is : (baps : List ℕ) (slot w : ℕ) → Owned w st shape n slot → pointBy common offset len ba exps w baps slot ≡ pointSlot st (paramsFor q fscod) shape d exps baps slot
+  unfolding pointBy
+  point-is baps slot w o = go (requestedOf shape slot) refl
+    where
+      go : (t : Bool) → requestedOf shape slot ≡ t → cond (eqb w 0) baps (pointedOf baps slot (allocation (kindBy w) (expsIn exps slot) (channelBy w) (paramsBy common) (leakBy slot common) (deltasOf w offset len ba slot))) ≡ pointSlot st (paramsFor q fscod) shape d exps baps slot
+      go true e =
+          let h = o .asked e in
+          let z : eqb w 0 ≡ false = ne-eqb w 0 (some w (manyOf n slot) (h .many)) in
+          rw z (ap (λ x. pointedOf baps slot x)
+          (allocation-alike (kindBy w) (expsIn exps slot) (channelBy w) (paramsBy common) (leakBy slot common) (deltasOf w offset len ba slot) (segmentsOf d slot) (segments-are w slot (h .many))
+          ∙ rw (h .kind, common-params q st fscod common p, common-leak q st fscod common p slot) (pointers-are st (paramsFor q fscod) shape d exps slot (silentOf st shape) refl (channelBy w) (h .channel) (segmentsOf d slot) refl))
+          ∙ sym (slot-asked st (paramsFor q fscod) shape d exps slot baps e))
+      go false e = let z : eqb w 0 ≡ true = eq-eqb w 0 (o .none e) in rw z (sym (slot-not-asked st (paramsFor q fscod) shape d exps slot baps e))
+
+  pub points-are : (baps : List ℕ) (slot m : ℕ) → slot + m ≤ 7 → pointsBy common offset len ba exps own baps slot m ≡ pointSlots st (paramsFor q fscod) shape d exps baps slot m
+  unfolding pointsBy pointSlots
+  points-are baps slot zero h = refl
+  points-are baps slot (suc m) h =
+      ap (λ x. pointsBy common offset len ba exps own x (suc slot) m) (point-is baps slot (getD own slot 0) (owns .at slot (omega arith)))
+      ∙ points-are (pointSlot st (paramsFor q fscod) shape d exps baps slot) (suc slot) m (omega arith)
 
 -- the tally that is kept, of the range that is kept
 range-is : (w start end : ℕ) → start < 65536 → end ≤ 253 → w / 65536 % 16777216 ≡ start + 65536 * end → (startBy w ≡ start) × (endBy w ≡ end)

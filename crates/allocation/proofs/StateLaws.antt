@@ -125,9 +125,12 @@ allocation-silent true k e c p l d = refl
 allocation-silent false k e c p l d = refl
 
 -- no segments, whatever their fields are
-pub no-deltas : (k : Pointers) (x : List ℕ) (c : Channel) (p : Params) (l : Leak) (d d′ : Deltas) → d .n ≡ 0 → d′ .n ≡ 0 → allocation k x c p l d ≡ allocation k x c p l d′
+no-deltas : (k : Pointers) (x : List ℕ) (c : Channel) (p : Params) (l : Leak) (d d′ : Deltas) → d .n ≡ 0 → d′ .n ≡ 0 → allocation k x c p l d ≡ allocation k x c p l d′
 unfolding allocation deltaed
 no-deltas k x c p l d d′ e f = rw (e, f)
+
+pub allocation-alike : (k : Pointers) (x : List ℕ) (c : Channel) (p : Params) (l : Leak) (d d′ : Deltas) → Alike d d′ → allocation k x c p l d ≡ allocation k x c p l d′
+allocation-alike k x c p l d d′ a = by-cases (ℕ-discrete (d .n) 0) (λ q. no-deltas k x c p l d d′ q (sym (a .many) ∙ q)) (λ q. ap (λ y. allocation k x c p l y) (a .rest q))
 
 -- the silence test, the slots before `slot` passed
 and-assoc : (a b c : Bool) → a && (b && c) ≡ (a && b) && c
@@ -151,10 +154,6 @@ module _ (st : AllocState) (shape : Shape) (slot : ℕ) (all : Bool) (so : silen
       let g : slot + 1 ≡ suc slot = omega arith in
       so ∙ rw (f, e, d, c, ← g) (and-assoc all (not (requestedOf shape slot) || eqb (getD (st .fsnroffst) slot 0) 0) (offsetsZero st shape (slot + 1) (7 - (slot + 1))))
 
-cond-length : (t : Bool) (x y : List ℕ) (n : ℕ) → length x ≡ n → length y ≡ n → length (cond t x y) ≡ n
-cond-length true x y n a b = a
-cond-length false x y n a b = b
-
 -- the pointers of a slot
 module _ (st : AllocState) (p : Params) (shape : Shape) (d : Segments) (exps : List ℕ) (slot : ℕ) where
   pub pointers-are : (silent : Bool) → silent ≡ silentOf st shape → (c : Channel) → c ≡ silenced silent (channelOf st shape slot) → (s : Deltas) → s ≡ segmentsOf d slot
@@ -162,12 +161,6 @@ module _ (st : AllocState) (p : Params) (shape : Shape) (d : Segments) (exps : L
   unfolding pointersOf
   pointers-are silent i c j s n =
       rw (j, n, i) (allocation-silent (silentOf st shape) (kindOf shape slot) (expsIn exps slot) (channelOf st shape slot) p (leakFor st slot) (segmentsOf d slot))
-
-  pub pointers-length : length (pointersOf st p shape d exps slot) ≡ 256
-  unfolding pointersOf
-  pointers-length =
-      cond-length (silentOf st shape) (replicate 256 0) (allocation (kindOf shape slot) (expsIn exps slot) (channelOf st shape slot) p (leakFor st slot) (segmentsOf d slot)) 256
-      refl (allocation-length (kindOf shape slot) (expsIn exps slot) (channelOf st shape slot) p (leakFor st slot) (segmentsOf d slot))
 
   -- put among the others, if they are asked for
   module _ (baps : List ℕ) where
@@ -178,20 +171,6 @@ module _ (st : AllocState) (p : Params) (shape : Shape) (d : Segments) (exps : L
     pub slot-not-asked : requestedOf shape slot ≡ false → pointSlot st p shape d exps baps slot ≡ baps
     unfolding pointSlot
     slot-not-asked e = rw e
-
--- slot by slot
-module _ (st : AllocState) (p : Params) (shape : Shape) (d : Segments) (exps baps : List ℕ) (slot : ℕ) where
-  pub slots-done : 7 ≤ slot → pointSlots st p shape d exps baps slot (7 - slot) ≡ baps
-  unfolding pointSlots
-  slots-done h = let e : 7 - slot ≡ 0 = omega arith in rw e
-
-  pub slots-next : slot < 7 → (new : List ℕ) → pointSlot st p shape d exps baps slot ≡ new
-      → pointSlots st p shape d exps baps slot (7 - slot) ≡ pointSlots st p shape d exps new (slot + 1) (7 - (slot + 1))
-  unfolding pointSlots
-  slots-next h new e =
-      let f : 7 - slot ≡ suc (7 - (slot + 1)) = omega arith in
-      let g : slot + 1 ≡ suc slot = omega arith in
-      rw (f, ← e, g)
 
 -- a block
 module _ (st : AllocState) (fscod : ℕ) (shape : Shape) (d : Segments) (exps baps : List ℕ) (r : Parameters) (e : r ≡ st .parameters) where
@@ -218,20 +197,13 @@ alike-none n o l b o′ l′ b′ z slot = go (ltb slot 6) refl
     go false e = record { many = refl; rest = λ h. refl }
 
 module _ (st : AllocState) (shape : Shape) (d e : Segments) (alike : (slot : ℕ) → Alike (segmentsOf d slot) (segmentsOf e slot)) where
-  allocation-alike : (k : Pointers) (x : List ℕ) (c : Channel) (p : Params) (l : Leak) (slot : ℕ) → allocation k x c p l (segmentsOf d slot) ≡ allocation k x c p l (segmentsOf e slot)
-  allocation-alike k x c p l slot = go (ℕ-discrete (segmentsOf d slot .n) 0)
-    where
-      go : Dec (segmentsOf d slot .n ≡ 0) → allocation k x c p l (segmentsOf d slot) ≡ allocation k x c p l (segmentsOf e slot)
-      go (yes q) = no-deltas k x c p l (segmentsOf d slot) (segmentsOf e slot) q (sym (alike slot .many) ∙ q)
-      go (no q) = ap (λ y. allocation k x c p l y) (alike slot .rest q)
-
   slots-alike : (p : Params) (exps : List ℕ) (n slot : ℕ) (baps : List ℕ) → pointSlots st p shape d exps baps slot n ≡ pointSlots st p shape e exps baps slot n
   unfolding pointSlots pointSlot pointersOf
   slots-alike p exps zero slot baps = refl
   slots-alike p exps (suc n) slot baps =
       slots-alike p exps n (suc slot) (pointSlot st p shape d exps baps slot)
       ∙ ap (λ x. pointSlots st p shape e exps (cond (requestedOf shape slot) (pointedOf baps slot (cond (silentOf st shape) (replicate 256 0) x)) baps) (suc slot) n)
-      (allocation-alike (kindOf shape slot) (expsIn exps slot) (channelOf st shape slot) p (leakFor st slot) slot)
+      (allocation-alike (kindOf shape slot) (expsIn exps slot) (channelOf st shape slot) p (leakFor st slot) (segmentsOf d slot) (segmentsOf e slot) (alike slot))
 
   pub allocated-alike : (fscod : ℕ) (exps baps : List ℕ) → allocatedOf st fscod shape d exps baps ≡ allocatedOf st fscod shape e exps baps
   unfolding allocatedOf

@@ -2,6 +2,7 @@
 use mathlib.Core.Bool.{Bool, cond}
 use Prim.Native.Nat.{ℕ, _<_}
 use Rattle.alloc.specs.declared.Channel.{Channel}
+use Rattle.slots.specs.declared.Range.{Range}
 use Rattle.allocation.specs.declared.AllocState.{AllocState}
 
 -- codes of three bits, and one of the three sampling rates
@@ -13,3 +14,6 @@ pub record Coded (st : AllocState) (fscod : ℕ) : Type 0 where
 -- with no bins
 abbrev pub silenced : Bool → Channel → Channel
 silenced silent c = cond silent (record { start = 0; end = 0; fgain = c .fgain; csnroffst = c .csnroffst; fsnroffst = c .fsnroffst }) c
+
+abbrev pub binsOf : Bool → Range → Range
+binsOf silent r = cond silent (record { start = 0; end = 0 }) r

@@ -2,7 +2,7 @@
 use mathlib.Core.Path.{_≡_}
 use mathlib.Core.Bool.{Bool, true, false, cond}
 use mathlib.Core.List.{List, [], _∷_}
-use Prim.Native.Nat.{ℕ, zero, suc, _+_, _-_, _*_, _/_, _%_, _<_, _≤_}
+use Prim.Native.Nat.{ℕ, zero, suc, _+_, _-_, _*_, _/_, _%_, _<_, _≤_, min}
 use lib.Dec.{eqb, ltb}
 use lib.ListN.{length, getD, set}
 use Rattle.tables.specs.BitAllocation.{fastgain}
@@ -14,12 +14,12 @@ use Rattle.alloc.specs.declared.Leak.{Leak}
 use Rattle.alloc.specs.declared.Leak.the-variants.{Absent}
 use Rattle.alloc.specs.declared.Pointers.{Pointers}
 use Rattle.alloc.specs.declared.Pointers.the-variants.{Bap, Hebap}
-use Rattle.slots.specs.Slots.{CPL, requestedOf}
+use Rattle.slots.specs.Slots.{CPL, LFE, requestedOf}
 use Rattle.slots.specs.declared.Shape.{Shape}
 use Rattle.mantissas.specs.Tally.{packed, tallyOf}
-use Rattle.allocation.specs.State.{expsIn, pointSlot, pointSlots}
+use Rattle.allocation.specs.State.{eightOf, Alike, silentOf, channelOf, kindOf, expsIn, pointedOf}
+use Rattle.allocation.specs.Coded.{silenced}
 use Rattle.allocation.specs.declared.AllocState.{AllocState}
-use Rattle.allocation.specs.declared.Segments.{Segments}
 use Rattle.allocation.specs.declared.memo.Source.{Source}
 
 -- a byte of a word, counted from the lowest, and all eight
@@ -35,8 +35,8 @@ pub record Packs (xs : List ℕ) (w : ℕ) : Type 0 where
   pub bytes : (k : ℕ) → k < 8 → byteOf w k ≡ getD xs k 0
 
 -- the arguments of an allocation in words. The slot's own: one more than the number of segments, the kind, the channel
-abbrev pub kindBy : Source → Pointers
-kindBy s = cond (eqb (byteOf (s .own) 1) 1) Hebap Bap
+abbrev pub kindBy : ℕ → Pointers
+kindBy own = cond (eqb (byteOf own 1) 1) Hebap Bap
 
 abbrev pub startBy : ℕ → ℕ
 startBy own = byteOf own 2 + 256 * byteOf own 3
@@ -44,15 +44,8 @@ startBy own = byteOf own 2 + 256 * byteOf own 3
 abbrev pub endBy : ℕ → ℕ
 endBy own = byteOf own 4
 
-abbrev pub channelBy : Source → Channel
-channelBy s =
-    record {
-      start = startBy (s .own);
-      end = endBy (s .own);
-      fgain = getD fastgain (byteOf (s .own) 5) 0;
-      csnroffst = byteOf (s .own) 6;
-      fsnroffst = byteOf (s .own) 7;
-    }
+abbrev pub channelBy : ℕ → Channel
+channelBy own = record { start = startBy own; end = endBy own; fgain = getD fastgain (byteOf own 5) 0; csnroffst = byteOf own 6; fsnroffst = byteOf own 7 }
 
 -- what all slots have in common: the parameters, and the leaks of coupling
 abbrev pub paramsBy : ℕ → Params
@@ -66,26 +59,53 @@ abbrev pub deltasBy : Source → Deltas
 deltasBy s = record { n = byteOf (s .own) 0 - 1; offset = eightIn (s .offset); len = eightIn (s .len); ba = eightIn (s .ba) }
 
 unfoldable pub allocationBy : ℕ → Source → List ℕ → List ℕ
-allocationBy slot s exps = allocation (kindBy s) exps (channelBy s) (paramsBy (s .common)) (leakBy slot (s .common)) (deltasBy s)
+allocationBy slot s exps = allocation (kindBy (s .own)) exps (channelBy (s .own)) (paramsBy (s .common)) (leakBy slot (s .common)) (deltasBy s)
 
--- at most eight segments, in arrays of eight
-pub record Short (d : Deltas) : Type 0 where
-  pub few : d .n ≤ 8
-  pub offset : length (d .offset) ≡ 8
-  pub len : length (d .len) ≡ 8
-  pub ba : length (d .ba) ≡ 8
+-- codes of three bits, and one of the three sampling rates
+pub record CodedBy (common : ℕ) : Type 0 where
+  pub fast : byteOf common 6 < 8
+  pub slow : byteOf common 7 < 8
+  pub rate : byteOf common 5 < 3
 
--- the leaks that all slots have in common are those of the state
-pub record SameLeaks (common : ℕ) (st : AllocState) : Type 0 where
-  pub fast : byteOf common 6 ≡ st .cplfleak
-  pub slow : byteOf common 7 ≡ st .cplsleak
+-- how many segments a slot has
+abbrev pub manyOf : List ℕ → ℕ → ℕ
+manyOf n slot = cond (ltb slot LFE) (min (getD n slot 0) 8) 0
 
--- the words say these arguments
-pub record Says (slot : ℕ) (s : Source) (k : Pointers) (c : Channel) (p : Params) (l : Leak) (d : Deltas) : Type 0 where
-  pub made : 0 < s .own
-  pub start : startBy (s .own) ≡ c .start
-  pub end : endBy (s .own) ≡ c .end
-  pub is : (exps : List ℕ) → allocationBy slot s exps ≡ allocation k exps c p l d
+-- a slot's own word says this of it
+pub record Tells (own : ℕ) (st : AllocState) (shape : Shape) (n : List ℕ) (slot : ℕ) : Type 0 where
+  pub many : byteOf own 0 ≡ manyOf n slot + 1
+  pub kind : kindBy own ≡ kindOf shape slot
+  pub channel : channelBy own ≡ silenced (silentOf st shape) (channelOf st shape slot)
+  pub ends : endBy own ≤ 253
+
+-- or is 0, where the slot is not asked for
+pub record Owned (own : ℕ) (st : AllocState) (shape : Shape) (n : List ℕ) (slot : ℕ) : Type 0 where
+  pub asked : requestedOf shape slot ≡ true → Tells own st shape n slot
+  pub none : requestedOf shape slot ≡ false → own ≡ 0
+
+pub record Owns (own : List ℕ) (st : AllocState) (shape : Shape) (n : List ℕ) : Type 0 where
+  pub size : length own ≡ 7
+  pub at : (slot : ℕ) → slot < 7 → Owned (getD own slot 0) st shape n slot
+
+-- what allocation asks of the word: bins up to 252, at most eight segments, and none of the LFE channel
+pub record Within (own slot : ℕ) : Type 0 where
+  pub ends : endBy own ≤ 253
+  pub many : byteOf own 0 ≤ 9
+  pub none : 1 < byteOf own 0 → slot < LFE
+
+pub record Words (own : List ℕ) : Type 0 where
+  pub size : length own ≡ 7
+  pub at : (slot : ℕ) → slot < 7 → Within (getD own slot 0) slot
+
+-- as many segments as the word says, of those that are lent
+unfoldable pub deltasOf : ℕ → List ℕ → List ℕ → List ℕ → ℕ → Deltas
+deltasOf own offset len ba slot = record { n = byteOf own 0 - 1; offset = eightOf offset (8 * slot); len = eightOf len (8 * slot); ba = eightOf ba (8 * slot) }
+
+-- five words of which the first two are these, and the others say these segments
+pub record Says (s : Source) (w v : ℕ) (d : Deltas) : Type 0 where
+  pub own : s .own ≡ w
+  pub common : s .common ≡ v
+  pub segments : Alike (deltasBy s) d
 
 -- six words for each of seven slots: the arguments, and the tally of the pointers
 abbrev pub sourceAt : List ℕ → ℕ → Source
@@ -128,12 +148,23 @@ pub record Noted (old new : List ℕ) (slot : ℕ) (s : Source) (t : ℕ) : Type
   pub before : (k : ℕ) → k < 6 * slot → getD new k 0 ≡ getD old k 0
   pub after : (k : ℕ) → 6 * slot + 6 ≤ k → getD new k 0 ≡ getD old k 0
 
--- whether a slot is asked for and not kept: where t does not hold, its pointers are there already
-pub record Stale (t : Bool) (st : AllocState) (p : Params) (shape : Shape) (d : Segments) (memo : List ℕ) (slot : ℕ) : Type 0 where
-  pub asked : t ≡ true → requestedOf shape slot ≡ true
-  pub there : t ≡ false → (exps baps : List ℕ) → Memo memo exps baps → pointSlot st p shape d exps baps slot ≡ baps
+-- whether a slot is asked for and not kept
+pub record Stale (t : Bool) (memo : List ℕ) (slot : ℕ) (s : Source) : Type 0 where
+  pub asked : t ≡ true → 0 < s .own
+  pub kept : t ≡ false → 0 < s .own → sourceAt memo slot ≡ s
+
+-- the pointers of a slot by its own word and by what all slots have in common, as they are where the word is 0; those of n slots from the slot `slot` on
+module _ (common : ℕ) (offset len ba exps : List ℕ) where
+  unfoldable pub pointBy : ℕ → List ℕ → ℕ → List ℕ
+  pointBy own baps slot =
+      cond (eqb own 0) baps
+      (pointedOf baps slot (allocation (kindBy own) (expsIn exps slot) (channelBy own) (paramsBy common) (leakBy slot common) (deltasOf own offset len ba slot)))
+
+  unfoldable pub pointsBy : List ℕ → List ℕ → ℕ → ℕ → List ℕ
+  pointsBy own baps slot zero = baps
+  pointsBy own baps slot (suc n) = pointsBy own (pointBy (getD own slot 0) baps slot) (suc slot) n
 
 -- the pointers of the slots before `slot` are there already
-pub record Passes (slot : ℕ) (st : AllocState) (p : Params) (shape : Shape) (d : Segments) (memo : List ℕ) : Type 0 where
+pub record Passes (common : ℕ) (offset len ba own : List ℕ) (slot : ℕ) (memo : List ℕ) : Type 0 where
   pub within : slot ≤ 7
-  pub there : (exps baps : List ℕ) → Memo memo exps baps → pointSlots st p shape d exps baps 0 7 ≡ pointSlots st p shape d exps baps slot (7 - slot)
+  pub there : (exps baps : List ℕ) → Memo memo exps baps → pointsBy common offset len ba exps own baps 0 7 ≡ pointsBy common offset len ba exps own baps slot (7 - slot)

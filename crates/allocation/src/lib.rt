@@ -1,5 +1,6 @@
 // The state of bit allocation, and the pointers of a block (A/52 clause 7.2.2.1, TS 102 366 clause 6.2.2.1).
 use crate::memo::Source;
+use crate::memo::bytes;
 use crate::memo::kept;
 use crate::memo::note;
 use crate::memo::word;
@@ -12,6 +13,7 @@ use alloc::Pointers;
 use mantissas::tally::shares;
 use slots::CPL;
 use slots::LFE;
+use slots::Range;
 use slots::Shape;
 use slots::hybrid;
 use slots::range_at;
@@ -21,15 +23,15 @@ ghost use mathlib.Core.Bool.{_&&_, _||_, not, cond};
 ghost use mathlib.Core.List.{[], _∷_};
 ghost use Prim.Native.Nat.{_+_, _*_, _-_, _/_, _%_, _<_, _≤_, min};
 ghost use lib.Dec.{eqb};
-ghost use lib.ListN.{length, getD};
-ghost use Rattle.alloc.specs.Allocation.{tab, fastOf, slowOf};
+ghost use lib.ListN.{length};
+ghost use Rattle.alloc.specs.Allocation.{tab};
 ghost use Rattle.alloc.specs.Premises.{Lent};
 ghost use Rattle.mantissas.specs.Tally.{shareOf};
 ghost use Rattle.slots.specs.Held.{Held};
-ghost use Rattle.allocation.specs.State.{freshState, eightOf, segmentsOf, silentOf, channelOf, leakFor, kindOf, paramsFor, pointedOf, pointersOf, pointSlots, allocated, allocatedOf, segmentsBy};
-ghost use Rattle.allocation.specs.Coded.{Coded, silenced};
-ghost use Rattle.allocation.specs.Memo.{Short, Packs, paramsBy, SameLeaks, Says, Stale, Passes, Memo};
-ghost use Rattle.tables.specs.BitAllocation.{fastgain};
+ghost use Rattle.slots.specs.Slots.{rangeOf};
+ghost use Rattle.allocation.specs.State.{freshState, eightOf, silentOf, expsIn, pointedOf, allocated, allocatedOf, segmentsBy};
+ghost use Rattle.allocation.specs.Coded.{Coded, binsOf};
+ghost use Rattle.allocation.specs.Memo.{Packs, kindBy, channelBy, paramsBy, leakBy, deltasBy, allocationBy, manyOf, Tells, Owned, Owns, Within, Words, CodedBy, deltasOf, Says, Stale, pointsBy, Passes, Memo};
 
 pub mod memo; // what is kept of the last allocation of each slot
 
@@ -81,14 +83,14 @@ impl AllocState {
     }
 }
 
-fn least(a: usize, b: usize) -> usize
+fn least(a: u8, b: u8) -> u8
     ensures { λ r. ⌜ r ≡ min a b ⌝ }
 {
     if a < b { a } else { b }
 }
 
 fn index(x: u8) -> usize
-    ensures { λ r. ⌜ r ≡ x ⌝ }
+    ensures { λ r. ⌜ (r ≡ x) × (r < 256) ⌝ }
 {
     x as usize
 }
@@ -108,32 +110,6 @@ fn eight(xs: &[u8; 48], slot: u8) -> [u8; 8]
         xs[k + 6],
         xs[k + 7],
     ]
-}
-
-// The segments of a slot; the LFE channel has none.
-fn segments_of(n: &[u8; 6], offset: &[u8; 48], len: &[u8; 48], ba: &[u8; 48], slot: u8) -> Deltas
-    ensures { λ r. ⌜ (r ≡ segmentsOf (segmentsBy (now (n .entry)) (now (offset .entry)) (now (len .entry)) (now (ba .entry))) slot) × Short r ⌝ }
-{
-    if slot < LFE {
-        let i = slot as usize;
-        let m = least(index(n[i]), 8);
-        let o = eight(offset, slot);
-        let l = eight(len, slot);
-        let b = eight(ba, slot);
-        return Deltas {
-            n: m,
-            offset: o,
-            len: l,
-            ba: b,
-        };
-    }
-    let none = [0u8; 8];
-    Deltas {
-        n: 0,
-        offset: none,
-        len: none,
-        ba: none,
-    }
 }
 
 fn no_offset(asked: bool, fsnroffst: u8) -> bool
@@ -162,50 +138,26 @@ fn silent(st: AllocState, shape: Shape) -> bool
     all
 }
 
-// The parameters of a slot's allocation; of none of its bins where the block is silent.
-fn channel(st: AllocState, shape: Shape, slot: u8, silent: bool) -> Channel
-    requires { ⌜ slot < 7 ⌝ }
-    ensures { λ r. ⌜ (r ≡ silenced silent (channelOf st shape slot)) × (r .end ≤ 253) × (r .fgain ≤ 1024) × (r .start < 65536) × (r .fgain ≡ getD fastgain (getD (st .fgaincod) slot 0) 0) ⌝ }
+// How many segments a slot has; the LFE channel has none.
+fn many(n: &[u8; 6], slot: u8) -> u8
+    ensures { λ r. ⌜ (r ≡ manyOf (now (n .entry)) slot) × (r ≤ 8) ⌝ }
 {
-    let i = slot as usize;
-    let r = range_at(shape, slot);
-    let fgain = tables::fast_gain(st.fgaincod[i]);
+    if slot < LFE {
+        let i = slot as usize;
+        return least(n[i], 8);
+    }
+    0
+}
+
+// The bins of a slot; none where the block is silent.
+fn bins(shape: Shape, slot: u8, silent: bool) -> Range
+    requires { ⌜ slot < 7 ⌝ }
+    ensures { λ r. ⌜ (r ≡ binsOf silent (rangeOf shape slot)) × (r .end ≤ 253) ⌝ }
+{
     if silent {
-        return Channel {
-            start: 0,
-            end: 0,
-            fgain: fgain,
-            csnroffst: st.csnroffst,
-            fsnroffst: st.fsnroffst[i],
-        };
+        return Range { start: 0, end: 0 };
     }
-    Channel {
-        start: r.start as usize,
-        end: r.end as usize,
-        fgain: fgain,
-        csnroffst: st.csnroffst,
-        fsnroffst: st.fsnroffst[i],
-    }
-}
-
-fn leak_for(st: AllocState, slot: u8) -> Leak
-    requires { ⌜ (st .cplfleak < 8) × (st .cplsleak < 8) ⌝ }
-    ensures { λ r. ⌜ (r ≡ leakFor st slot) × (fastOf r ≤ 2560) × (slowOf r ≤ 2560) ⌝ }
-{
-    if slot == CPL {
-        return alloc::leak_of(st.cplfleak, st.cplsleak);
-    }
-    Leak::Absent
-}
-
-fn kind_of(shape: Shape, slot: u8) -> Pointers
-    requires { ⌜ slot < 7 ⌝ }
-    ensures { λ r. ⌜ r ≡ kindOf shape slot ⌝ }
-{
-    if hybrid(shape, slot) {
-        return Pointers::Hebap;
-    }
-    Pointers::Bap
+    range_at(shape, slot)
 }
 
 fn one_if(b: bool) -> u8
@@ -215,33 +167,62 @@ fn one_if(b: bool) -> u8
 }
 
 // The low and the high byte of a number.
-fn low(x: usize) -> u8
+fn low(x: u16) -> u8
     ensures { λ r. ⌜ r ≡ x % 256 ⌝ }
 {
     (x % 256) as u8
 }
 
-fn high(x: usize) -> u8
-    ensures { λ r. ⌜ r ≡ x / 256 % 256 ⌝ }
+fn high(x: u16) -> u8
+    ensures { λ r. ⌜ r ≡ x / 256 ⌝ }
 {
-    (x / 256 % 256) as u8
+    (x / 256) as u8
 }
 
 // The word of what a slot has of its own: how many segments there are, the kind, the channel.
-fn own_of(hybrid: bool, fgaincod: u8, c: Channel, n: usize) -> u64
-    requires { ⌜ n ≤ 8 ⌝ }
-    ensures { λ r. ⌜ Packs ((n + 1) ∷ cond hybrid 1 0 ∷ c .start % 256 ∷ c .start / 256 % 256 ∷ c .end % 256 ∷ fgaincod ∷ c .csnroffst ∷ c .fsnroffst ∷ []) r ⌝ }
+fn own_of(st: AllocState, shape: Shape, n: &[u8; 6], silent: bool, slot: u8) -> u64
+    requires { ⌜ (slot < 7) × (silent ≡ silentOf st shape) ⌝ }
+    ensures { λ r. ⌜ Tells r st shape (now (n .entry)) slot ⌝ }
 {
+    let i = slot as usize;
+    let r = bins(shape, slot, silent);
     word(
-        low(n + 1),
-        one_if(hybrid),
-        low(c.start),
-        high(c.start),
-        low(c.end),
-        fgaincod,
-        c.csnroffst,
-        c.fsnroffst,
+        many(n, slot) + 1,
+        one_if(hybrid(shape, slot)),
+        low(r.start),
+        high(r.start),
+        low(r.end),
+        st.fgaincod[i],
+        st.csnroffst,
+        st.fsnroffst[i],
     )
+}
+
+// This word, or 0 where the pointers of the slot are not asked for.
+fn own_at(st: AllocState, shape: Shape, n: &[u8; 6], silent: bool, slot: u8) -> u64
+    requires { ⌜ (slot < 7) × (silent ≡ silentOf st shape) ⌝ }
+    ensures { λ r. ⌜ Owned r st shape (now (n .entry)) slot ⌝ }
+{
+    if requested(shape, slot) {
+        return own_of(st, shape, n, silent, slot);
+    }
+    0
+}
+
+// Those of all slots.
+fn own_words(st: AllocState, shape: Shape, n: &[u8; 6]) -> [u64; 7]
+    ensures { λ r. ⌜ Owns r st shape (now (n .entry)) ⌝ }
+{
+    let silent = silent(st, shape);
+    [
+        own_at(st, shape, n, silent, 0),
+        own_at(st, shape, n, silent, 1),
+        own_at(st, shape, n, silent, 2),
+        own_at(st, shape, n, silent, 3),
+        own_at(st, shape, n, silent, 4),
+        own_at(st, shape, n, silent, CPL),
+        own_at(st, shape, n, silent, LFE),
+    ]
 }
 
 // The word of what all slots have in common.
@@ -261,13 +242,18 @@ fn common_of(q: Codes, fscod: u8, cplfleak: u8, cplsleak: u8) -> u64
 }
 
 // What the pointers of a slot are computed from. Where there are no segments, their words are 0.
-fn source_of(st: AllocState, common: u64, shape: Shape, slot: u8, c: Channel, d: Deltas) -> Source
-    requires { ⌜ (slot < 7) × Short d × (c .start < 65536) × (c .end ≤ 253) × (c .fgain ≡ getD fastgain (getD (st .fgaincod) slot 0) 0) × SameLeaks common st ⌝ }
-    ensures { λ r. ⌜ Says slot r (kindOf shape slot) c (paramsBy common) (leakFor st slot) d ⌝ }
+fn source_of(
+    own: u64,
+    common: u64,
+    offset: &[u8; 48],
+    len: &[u8; 48],
+    ba: &[u8; 48],
+    slot: u8,
+) -> Source
+    requires { ⌜ Within own slot ⌝ }
+    ensures { λ r. ⌜ Says r own common (deltasOf own (now (offset .entry)) (now (len .entry)) (now (ba .entry)) slot) ⌝ }
 {
-    let i = slot as usize;
-    let own = own_of(hybrid(shape, slot), st.fgaincod[i], c, d.n);
-    if d.n == 0 {
+    if own % 256 <= 1 {
         return Source {
             own: own,
             common: common,
@@ -276,41 +262,83 @@ fn source_of(st: AllocState, common: u64, shape: Shape, slot: u8, c: Channel, d:
             ba: 0,
         };
     }
-    let offset = d.offset;
-    let len = d.len;
-    let ba = d.ba;
     Source {
         own: own,
         common: common,
-        offset: word_of(offset),
-        len: word_of(len),
-        ba: word_of(ba),
+        offset: word_of(eight(offset, slot)),
+        len: word_of(eight(len, slot)),
+        ba: word_of(eight(ba, slot)),
     }
 }
 
 // Whether the pointers of a slot are asked for and are not kept.
-fn stale_at(
-    st: AllocState,
-    common: u64,
-    shape: Shape,
-    n: &[u8; 6],
-    offset: &[u8; 48],
-    len: &[u8; 48],
-    ba: &[u8; 48],
-    memo: &[u64; 42],
-    silent: bool,
-    slot: u8,
-) -> bool
-    requires { ⌜ (length (now memo) ≡ 42) × (slot < 7) × (silent ≡ silentOf st shape) × SameLeaks common st ⌝ }
-    ensures { λ r. ⌜ Stale r st (paramsBy common) shape (segmentsBy (now (n .entry)) (now (offset .entry)) (now (len .entry)) (now (ba .entry))) (now (memo .entry)) slot ⌝ }
+fn stale_at(memo: &[u64; 42], slot: u8, s: Source) -> bool
+    requires { ⌜ (length (now memo) ≡ 42) × (slot < 7) ⌝ }
+    ensures { λ r. ⌜ Stale r (now (memo .entry)) slot s ⌝ }
 {
-    if !requested(shape, slot) {
+    if s.own == 0 {
         return false;
     }
-    let c = channel(st, shape, slot, silent);
-    let d = segments_of(n, offset, len, ba, slot);
-    let s = source_of(st, common, shape, slot, c, d);
     !kept(memo, slot as usize, s)
+}
+
+// What the words say.
+fn channel_in(own: u64) -> Channel
+    ensures { λ r. ⌜ r ≡ channelBy own ⌝ }
+{
+    let b = bytes(own);
+    Channel {
+        start: index(b[2]) + 256 * index(b[3]),
+        end: index(b[4]),
+        fgain: tables::fast_gain(b[5]),
+        csnroffst: b[6],
+        fsnroffst: b[7],
+    }
+}
+
+fn kind_in(own: u64) -> Pointers
+    ensures { λ r. ⌜ r ≡ kindBy own ⌝ }
+{
+    let b = bytes(own);
+    if b[1] == 1 {
+        return Pointers::Hebap;
+    }
+    Pointers::Bap
+}
+
+fn params_in(common: u64) -> Params
+    ensures { λ r. ⌜ r ≡ paramsBy common ⌝ }
+{
+    let b = bytes(common);
+    alloc::params_of(b[0], b[1], b[2], b[3], b[4], index(b[5]))
+}
+
+fn leak_in(common: u64, slot: u8) -> Leak
+    ensures { λ r. ⌜ r ≡ leakBy slot common ⌝ }
+{
+    if slot == CPL {
+        let b = bytes(common);
+        return alloc::leak_of(b[6], b[7]);
+    }
+    Leak::Absent
+}
+
+fn one_less(x: u8) -> usize
+    ensures { λ r. ⌜ r ≡ x - 1 ⌝ }
+{
+    if 0 < x { (x - 1) as usize } else { 0 }
+}
+
+fn deltas_in(s: Source) -> Deltas
+    ensures { λ r. ⌜ r ≡ deltasBy s ⌝ }
+{
+    let b = bytes(s.own);
+    Deltas {
+        n: one_less(b[0]),
+        offset: bytes(s.offset),
+        len: bytes(s.len),
+        ba: bytes(s.ba),
+    }
 }
 
 // The pointers of a slot computed; what they were computed from and their tally are kept.
@@ -321,32 +349,23 @@ fn renew(
     hth: &[u16; 150],
     points: &[u8; 1024],
     shares: &[u64; 256],
-    st: AllocState,
-    common: u64,
-    shape: Shape,
-    n: &[u8; 6],
-    offset: &[u8; 48],
-    len: &[u8; 48],
-    ba: &[u8; 48],
     exps: &[u8],
     baps: &mut [u8],
     memo: &mut [u64; 42],
     p: Params,
-    silent: bool,
+    s: Source,
     slot: u8,
 )
     requires { ⌜ (Lent (now latab) (now masktab) (now ends) (now hth) (now points)) × (now shares ≡ tab shareOf 0 256) ⌝ }
-    requires { ⌜ (Held (now exps)) × Memo (now memo) (now exps) (now baps) × (Coded st (p .fscod)) × (slot < 7) ⌝ }
-    requires { ⌜ (p ≡ paramsBy common) × (silent ≡ silentOf st shape) × SameLeaks common st ⌝ }
-    ensures { λ r. ⌜ (now (baps .exit) ≡ pointedOf (now (baps .entry)) slot
-        (pointersOf st p shape (segmentsBy (now (n .entry)) (now (offset .entry)) (now (len .entry)) (now (ba .entry))) (now (exps .entry)) slot))
+    requires { ⌜ (Held (now exps)) × Memo (now memo) (now exps) (now baps) × (slot < 7) ⌝ }
+    requires { ⌜ (p ≡ paramsBy (s .common)) × CodedBy (s .common) × Within (s .own) slot ⌝ }
+    ensures { λ r. ⌜ (now (baps .exit) ≡ pointedOf (now (baps .entry)) slot (allocationBy slot s (expsIn (now (exps .entry)) slot)))
         × Memo (now (memo .exit)) (now (exps .entry)) (now (baps .exit)) ⌝ }
 {
-    let c = channel(st, shape, slot, silent);
-    let d = segments_of(n, offset, len, ba, slot);
-    let s = source_of(st, common, shape, slot, c, d);
-    let l = leak_for(st, slot);
-    let kind = kind_of(shape, slot);
+    let c = channel_in(s.own);
+    let kind = kind_in(s.own);
+    let l = leak_in(s.common, slot);
+    let d = deltas_in(s);
     let a = 256 * (slot as usize);
     let e = a + 256;
     let tally = alloc::allocate(
@@ -369,22 +388,21 @@ fn renew(
 
 // The first slot whose pointers are asked for and are not kept, or 7.
 fn first_stale(
-    st: AllocState,
+    own: &[u64; 7],
     common: u64,
-    shape: Shape,
-    n: &[u8; 6],
     offset: &[u8; 48],
     len: &[u8; 48],
     ba: &[u8; 48],
     memo: &[u64; 42],
-    silent: bool,
 ) -> u8
-    requires { ⌜ (length (now memo) ≡ 42) × (silent ≡ silentOf st shape) × SameLeaks common st ⌝ }
-    ensures { λ r. ⌜ Passes r st (paramsBy common) shape (segmentsBy (now (n .entry)) (now (offset .entry)) (now (len .entry)) (now (ba .entry))) (now (memo .entry)) ⌝ }
+    requires { ⌜ (length (now memo) ≡ 42) × Words (now own) ⌝ }
+    ensures { λ r. ⌜ Passes common (now (offset .entry)) (now (len .entry)) (now (ba .entry)) (now (own .entry)) r (now (memo .entry)) ⌝ }
 {
     let mut slot: u8 = 0;
     while slot < 7 {
-        if stale_at(st, common, shape, n, offset, len, ba, memo, silent, slot) {
+        let i = slot as usize;
+        let s = source_of(own[i], common, offset, len, ba, slot);
+        if stale_at(memo, slot, s) {
             return slot;
         }
         slot += 1;
@@ -394,25 +412,19 @@ fn first_stale(
 
 // The pointers of the slots from `first` on that are asked for. The tables are laid once.
 fn point_slots(
-    st: AllocState,
-    q: Codes,
-    fscod: u8,
+    own: &[u64; 7],
     common: u64,
-    shape: Shape,
-    n: &[u8; 6],
     offset: &[u8; 48],
     len: &[u8; 48],
     ba: &[u8; 48],
     exps: &[u8; 1792],
     baps: &mut [u8; 1792],
     memo: &mut [u64; 42],
-    silent: bool,
     first: u8,
 )
-    requires { ⌜ (Held (now exps)) × (Coded st fscod) × Memo (now memo) (now exps) (now baps) × (silent ≡ silentOf st shape) × (first ≤ 7) ⌝ }
-    requires { ⌜ (paramsBy common ≡ paramsFor q fscod) × SameLeaks common st ⌝ }
+    requires { ⌜ (Held (now exps)) × Memo (now memo) (now exps) (now baps) × Words (now own) × CodedBy common × (first ≤ 7) ⌝ }
     ensures { λ r. ⌜ (now (baps .exit)
-        ≡ pointSlots st (paramsFor q fscod) shape (segmentsBy (now (n .entry)) (now (offset .entry)) (now (len .entry)) (now (ba .entry))) (now (exps .entry)) (now (baps .entry)) first (7 - first))
+        ≡ pointsBy common (now (offset .entry)) (now (len .entry)) (now (ba .entry)) (now (exps .entry)) (now (own .entry)) (now (baps .entry)) first (7 - first))
         × Memo (now (memo .exit)) (now (exps .entry)) (now (baps .exit)) ⌝ }
 {
     let latab = tables::log_add();
@@ -421,17 +433,12 @@ fn point_slots(
     let hth = tables::hearing();
     let points = tables::pointers();
     let shares = shares();
-    let p = alloc::params_of(
-        q.sdcycod,
-        q.fdcycod,
-        q.sgaincod,
-        q.dbpbcod,
-        q.floorcod,
-        fscod as usize,
-    );
+    let p = params_in(common);
     let mut slot = first;
     while slot < 7 {
-        if stale_at(st, common, shape, n, offset, len, ba, memo, silent, slot) {
+        let i = slot as usize;
+        let s = source_of(own[i], common, offset, len, ba, slot);
+        if stale_at(memo, slot, s) {
             renew(
                 &latab,
                 &masktab,
@@ -439,18 +446,11 @@ fn point_slots(
                 &hth,
                 &points,
                 &shares,
-                st,
-                common,
-                shape,
-                n,
-                offset,
-                len,
-                ba,
                 exps,
                 baps,
                 memo,
                 p,
-                silent,
+                s,
                 slot,
             );
         }
@@ -481,27 +481,12 @@ pub fn allocate_block<'a>(
     let Parameters::Sent(q) = parameters else {
         return 29;
     };
-    let silent = silent(st, shape);
     let common = common_of(q, fscod, st.cplfleak, st.cplsleak);
-    let first = first_stale(st, common, shape, n, offset, len, ba, memo, silent);
+    let own = own_words(st, shape, n);
+    let first = first_stale(&own, common, offset, len, ba, memo);
     if 7 <= first {
         return 0;
     }
-    point_slots(
-        st,
-        q,
-        fscod,
-        common,
-        shape,
-        n,
-        offset,
-        len,
-        ba,
-        exps,
-        baps,
-        memo,
-        silent,
-        first,
-    );
+    point_slots(&own, common, offset, len, ba, exps, baps, memo, first);
     0
 }

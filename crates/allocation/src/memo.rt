@@ -11,7 +11,7 @@ ghost use Prim.Native.Nat.{ℕ, _+_, _-_, _*_, _%_, _/_, _<_, _≤_};
 ghost use lib.Dec.{eqb};
 ghost use lib.ListN.{length, getD};
 ghost use Rattle.mantissas.specs.Tally.{tallyOf};
-ghost use Rattle.allocation.specs.Memo.{Packs, Kept, Noted, Tallies, staleOf};
+ghost use Rattle.allocation.specs.Memo.{Packs, eightIn, Kept, Noted, Tallies, staleOf};
 
 // What a slot's pointers are computed from, besides its exponents: words of eight bytes.
 pub struct Source {
@@ -41,6 +41,35 @@ pub fn word_of(a: [u8; 8]) -> u64
     ensures { λ r. ⌜ Packs a r ⌝ }
 {
     word(a[0], a[1], a[2], a[3], a[4], a[5], a[6], a[7])
+}
+
+fn low_byte(w: u64) -> u8
+    ensures { λ r. ⌜ r ≡ w % 256 ⌝ }
+{
+    (w % 256) as u8
+}
+
+// The bytes of a word.
+pub fn bytes(w: u64) -> [u8; 8]
+    ensures { λ r. ⌜ r ≡ eightIn w ⌝ }
+{
+    let b = w / 256;
+    let c = b / 256;
+    let d = c / 256;
+    let e = d / 256;
+    let f = e / 256;
+    let g = f / 256;
+    let h = g / 256;
+    [
+        low_byte(w),
+        low_byte(b),
+        low_byte(c),
+        low_byte(d),
+        low_byte(e),
+        low_byte(f),
+        low_byte(g),
+        low_byte(h),
+    ]
 }
 
 // Whether a slot is kept, and was computed from this.

@@ -1,0 +1,11 @@
+use mathlib.Core.Path.{_≡_, refl, sym, ap, _∙_}
+use borrow.Author.Needs.{needs}
+use Rattle.allocation.proofs.deltas_in.Statement.{statement}
+use Rattle.allocation.proofs.deltas_in.Tie as tie
+
+returns : tie.Need-returns
+returns c = rw (c .before .before .before .one-less .ensures, c .before .before .before .before .bytes .ensures, c .before .before .bytes2 .ensures, c .before .bytes3 .ensures, c .bytes4 .ensures)
+
+pub deltas-in-spec : {M : Type 1} → statement M
+deltas-in-spec =
+    tie.close (tie.spec (λ c κs. search needs) (λ c. search needs) (λ c κs. search needs) (λ c κs. search needs) (λ c κs. search needs) (λ c κs. search needs) returns)

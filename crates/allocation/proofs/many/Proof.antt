@@ -1,0 +1,16 @@
+use native.Mathlib.Omega.{arith}
+use mathlib.Core.Path.{_≡_, refl, sym, ap, _∙_}
+use borrow.Author.Tests.{lt-ltb, le-ltb}
+use borrow.Author.Needs.{needs}
+use Rattle.allocation.proofs.many.Statement.{statement}
+use Rattle.allocation.proofs.many.Tie as tie
+
+returns : tie.Need-returns
+returns c = (rw (lt-ltb _ 6 (c .before .before .if1 .taken)) (c .least .ensures), omega (arith, c .least .ensures))
+
+returns-2 : tie.Need-returns-2
+returns-2 c = (rw (le-ltb _ 6 (c .if1 .left)), omega arith)
+
+pub many-spec : {M : Type 1} → statement M
+many-spec =
+    tie.close (tie.spec (λ c. search needs) (λ c κs. search needs) returns returns-2)
