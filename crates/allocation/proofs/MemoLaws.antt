@@ -9,7 +9,7 @@ use native.Mathlib.Decide.{ℕ-discrete, decLt}
 use lib.Dec.{eqb, ltb}
 use lib.ListN.{length, getD, take, drop, set, replicate, length-set, length-replicate, getD-replicate}
 use lib.Seq.{ext-getD, getD-set-same, getD-set-other, getD-take, getD-drop}
-use borrow.Author.Tests.{eqb-true, eq-eqb, ne-eqb, ltb-true, ltb-false, not-false}
+use borrow.Author.Tests.{eqb-true, eq-eqb, ne-eqb, ltb-true, ltb-false}
 use Rattle.tables.specs.BitAllocation.{fastgain}
 use Rattle.tables.proofs.Limits.{fastgain-high}
 use Rattle.alloc.specs.Allocation.{tab, allocation, leakOf, fastOf, slowOf}
@@ -30,14 +30,26 @@ use Rattle.mantissas.specs.Tally.{aloneOf, countOf, packed, tallyOf, shareOf}
 use Rattle.mantissas.proofs.TallyLaws.{share-at, total-is}
 use Rattle.allocation.proofs.Unmet.{pointer-within}
 use Rattle.allocation.specs.State.{eightOf, segmentsBy, segmentsOf, Alike, silentOf, channelOf, expsIn, pointedOf, pointSlot, pointSlots, kindOf, leakFor, paramsFor}
-use Rattle.allocation.specs.Coded.{Coded, silenced, binsOf}
-use Rattle.allocation.specs.Memo.{byteOf, eightIn, Packs, kindBy, startBy, endBy, channelBy, paramsBy, leakBy, deltasBy, allocationBy, CodedBy, manyOf, Tells, Owned, Owns, Within, Words, deltasOf, Says, sourceAt, Tallies, Memo, staleOf, Kept, Noted, Stale, pointBy, pointsBy, Passes}
+use Rattle.allocation.specs.Coded.{Coded, silenced}
+use Rattle.allocation.specs.Memo.{byteOf, eightIn, Packs, kindBy, startBy, endBy, channelBy, paramsBy, leakBy, deltasBy, allocationBy, CodedBy, manyOf, Owned, Owns, Within, Words, deltasOf, Says, sourceAt, Tallies, Memo, staleOf, Kept, Noted, pointBy, pointsBy, Passes}
 use Rattle.allocation.specs.declared.Codes.{Codes}
 use Rattle.allocation.specs.declared.AllocState.{AllocState}
 use Rattle.allocation.specs.declared.Segments.{Segments}
 use Rattle.allocation.specs.declared.memo.Source.{Source}
 use Rattle.slots.proofs.Tests.{both}
 use Rattle.allocation.proofs.StateLaws.{allocation-alike, allocation-length, part-width, part-length, pointers-are, pointed-length, pointed-at, pointed-apart, pointed-there, slot-asked, slot-not-asked}
+
+-- eight numbers
+each-of-eight : (P : ℕ → Type 0) → P 0 → P 1 → P 2 → P 3 → P 4 → P 5 → P 6 → P 7 → (k : ℕ) → k < 8 → P k
+each-of-eight P a b c d e f g h zero l = a
+each-of-eight P a b c d e f g h (suc zero) l = b
+each-of-eight P a b c d e f g h (suc (suc zero)) l = c
+each-of-eight P a b c d e f g h (suc (suc (suc zero))) l = d
+each-of-eight P a b c d e f g h (suc (suc (suc (suc zero)))) l = e
+each-of-eight P a b c d e f g h (suc (suc (suc (suc (suc zero))))) l = f
+each-of-eight P a b c d e f g h (suc (suc (suc (suc (suc (suc zero)))))) l = g
+each-of-eight P a b c d e f g h (suc (suc (suc (suc (suc (suc (suc zero))))))) l = h
+each-of-eight P a b c d e f g h (suc (suc (suc (suc (suc (suc (suc (suc k)))))))) l = absurd (let z : ⊥ = omega arith in z)
 
 -- bytes of a word
 byte-here : (b r : ℕ) → b < 256 → byteOf (b + 256 * r) 0 ≡ b
@@ -54,18 +66,18 @@ byte-last b h = omega arith
 
 pub packs : (w a b c d e f g h : ℕ) → a < 256 → b < 256 → c < 256 → d < 256 → e < 256 → f < 256 → g < 256 → h < 256
     → w ≡ a + 256 * (b + 256 * (c + 256 * (d + 256 * (e + 256 * (f + 256 * (g + 256 * h)))))) → Packs (a ∷ b ∷ c ∷ d ∷ e ∷ f ∷ g ∷ h ∷ []) w
-packs w a b c d e f g h la lb lc ld le lf lg lh q = record { bytes = λ k l. ap (λ x. byteOf x k) q ∙ go k l }
-  where
-    go : (k : ℕ) → k < 8 → byteOf (a + 256 * (b + 256 * (c + 256 * (d + 256 * (e + 256 * (f + 256 * (g + 256 * h))))))) k ≡ getD (a ∷ b ∷ c ∷ d ∷ e ∷ f ∷ g ∷ h ∷ []) k 0
-    go zero l = byte-here a _ la
-    go (suc zero) l = byte-on a _ 0 la ∙ byte-here b _ lb
-    go (suc (suc zero)) l = byte-on a _ 1 la ∙ byte-on b _ 0 lb ∙ byte-here c _ lc
-    go (suc (suc (suc zero))) l = byte-on a _ 2 la ∙ byte-on b _ 1 lb ∙ byte-on c _ 0 lc ∙ byte-here d _ ld
-    go (suc (suc (suc (suc zero)))) l = byte-on a _ 3 la ∙ byte-on b _ 2 lb ∙ byte-on c _ 1 lc ∙ byte-on d _ 0 ld ∙ byte-here e _ le
-    go (suc (suc (suc (suc (suc zero))))) l = byte-on a _ 4 la ∙ byte-on b _ 3 lb ∙ byte-on c _ 2 lc ∙ byte-on d _ 1 ld ∙ byte-on e _ 0 le ∙ byte-here f _ lf
-    go (suc (suc (suc (suc (suc (suc zero)))))) l = byte-on a _ 5 la ∙ byte-on b _ 4 lb ∙ byte-on c _ 3 lc ∙ byte-on d _ 2 ld ∙ byte-on e _ 1 le ∙ byte-on f _ 0 lf ∙ byte-here g _ lg
-    go (suc (suc (suc (suc (suc (suc (suc zero))))))) l = byte-on a _ 6 la ∙ byte-on b _ 5 lb ∙ byte-on c _ 4 lc ∙ byte-on d _ 3 ld ∙ byte-on e _ 2 le ∙ byte-on f _ 1 lf ∙ byte-on g _ 0 lg ∙ byte-last h lh
-    go (suc (suc (suc (suc (suc (suc (suc (suc k)))))))) l = absurd (let z : ⊥ = omega arith in z)
+packs w a b c d e f g h la lb lc ld le lf lg lh q = record {
+  bytes = λ k l. ap (λ x. byteOf x k) q ∙ each-of-eight
+      (λ k. byteOf (a + 256 * (b + 256 * (c + 256 * (d + 256 * (e + 256 * (f + 256 * (g + 256 * h))))))) k ≡ getD (a ∷ b ∷ c ∷ d ∷ e ∷ f ∷ g ∷ h ∷ []) k 0)
+      (byte-here a _ la)
+      (byte-on a _ 0 la ∙ byte-here b _ lb)
+      (byte-on a _ 1 la ∙ byte-on b _ 0 lb ∙ byte-here c _ lc)
+      (byte-on a _ 2 la ∙ byte-on b _ 1 lb ∙ byte-on c _ 0 lc ∙ byte-here d _ ld)
+      (byte-on a _ 3 la ∙ byte-on b _ 2 lb ∙ byte-on c _ 1 lc ∙ byte-on d _ 0 ld ∙ byte-here e _ le)
+      (byte-on a _ 4 la ∙ byte-on b _ 3 lb ∙ byte-on c _ 2 lc ∙ byte-on d _ 1 ld ∙ byte-on e _ 0 le ∙ byte-here f _ lf)
+      (byte-on a _ 5 la ∙ byte-on b _ 4 lb ∙ byte-on c _ 3 lc ∙ byte-on d _ 2 ld ∙ byte-on e _ 1 le ∙ byte-on f _ 0 lf ∙ byte-here g _ lg)
+      (byte-on a _ 6 la ∙ byte-on b _ 5 lb ∙ byte-on c _ 4 lc ∙ byte-on d _ 3 ld ∙ byte-on e _ 2 le ∙ byte-on f _ 1 lf ∙ byte-on g _ 0 lg ∙ byte-last h lh) k l;
+}
 
 -- as the code makes a word
 pub word-packs : (a b c d e f g h a′ b′ c′ d′ e′ f′ g′ h′ : ℕ) → a′ ≡ a → b′ ≡ b → c′ ≡ c → d′ ≡ d → e′ ≡ e → f′ ≡ f → g′ ≡ g → h′ ≡ h
@@ -77,32 +89,11 @@ word-packs a b c d e f g h a′ b′ c′ d′ e′ f′ g′ h′ ea eb ec ed e
 -- eight elements of a list
 pub packs-list : (xs : List ℕ) (w a b c d e f g h : ℕ) → a ≡ getD xs 0 0 → b ≡ getD xs 1 0 → c ≡ getD xs 2 0 → d ≡ getD xs 3 0 → e ≡ getD xs 4 0 → f ≡ getD xs 5 0 → g ≡ getD xs 6 0 → h ≡ getD xs 7 0
     → Packs (a ∷ b ∷ c ∷ d ∷ e ∷ f ∷ g ∷ h ∷ []) w → Packs xs w
-packs-list xs w a b c d e f g h ea eb ec ed ee ef eg eh p = record { bytes = λ k l. p .bytes k l ∙ go k l }
-  where
-    go : (k : ℕ) → k < 8 → getD (a ∷ b ∷ c ∷ d ∷ e ∷ f ∷ g ∷ h ∷ []) k 0 ≡ getD xs k 0
-    go zero l = ea
-    go (suc zero) l = eb
-    go (suc (suc zero)) l = ec
-    go (suc (suc (suc zero))) l = ed
-    go (suc (suc (suc (suc zero)))) l = ee
-    go (suc (suc (suc (suc (suc zero))))) l = ef
-    go (suc (suc (suc (suc (suc (suc zero)))))) l = eg
-    go (suc (suc (suc (suc (suc (suc (suc zero))))))) l = eh
-    go (suc (suc (suc (suc (suc (suc (suc (suc k)))))))) l = absurd (let z : ⊥ = omega arith in z)
+packs-list xs w a b c d e f g h ea eb ec ed ee ef eg eh p = record { bytes = λ k l. p .bytes k l ∙ each-of-eight (λ k. getD (a ∷ b ∷ c ∷ d ∷ e ∷ f ∷ g ∷ h ∷ []) k 0 ≡ getD xs k 0) ea eb ec ed ee ef eg eh k l }
 
 packs-is : (xs : List ℕ) (w : ℕ) → length xs ≡ 8 → Packs xs w → eightIn w ≡ xs
-packs-is xs w n p = ext-getD 0 (eightIn w) xs (sym n) (λ k l. go k l)
-  where
-    go : (k : ℕ) → k < 8 → getD (eightIn w) k 0 ≡ getD xs k 0
-    go zero l = p .bytes 0 l
-    go (suc zero) l = p .bytes 1 l
-    go (suc (suc zero)) l = p .bytes 2 l
-    go (suc (suc (suc zero))) l = p .bytes 3 l
-    go (suc (suc (suc (suc zero)))) l = p .bytes 4 l
-    go (suc (suc (suc (suc (suc zero))))) l = p .bytes 5 l
-    go (suc (suc (suc (suc (suc (suc zero)))))) l = p .bytes 6 l
-    go (suc (suc (suc (suc (suc (suc (suc zero))))))) l = p .bytes 7 l
-    go (suc (suc (suc (suc (suc (suc (suc (suc k)))))))) l = absurd (let z : ⊥ = omega arith in z)
+packs-is xs w n p = ext-getD 0 (eightIn w) xs (sym n) (λ k l. each-of-eight (λ k. getD (eightIn w) k 0 ≡ getD xs k 0)
+    (p .bytes 0 (omega arith)) (p .bytes 1 (omega arith)) (p .bytes 2 (omega arith)) (p .bytes 3 (omega arith)) (p .bytes 4 (omega arith)) (p .bytes 5 (omega arith)) (p .bytes 6 (omega arith)) (p .bytes 7 (omega arith)) k l)
 
 deltas-is : (n n′ : ℕ) (o l b o′ l′ b′ : List ℕ) → n ≡ n′ → o ≡ o′ → l ≡ l′ → b ≡ b′ → _≡_ {A = Deltas} (record { n = n; offset = o; len = l; ba = b }) (record { n = n′; offset = o′; len = l′; ba = b′ })
 deltas-is n n′ o l b o′ l′ b′ p q r s = rw (p, q, r, s)
@@ -114,15 +105,6 @@ leak-low false f s g h = (omega arith, omega arith)
 by-length : (slot : ℕ) (s : Source) (x : List ℕ) → length (allocationBy slot s x) ≡ 256
 unfolding allocationBy
 by-length slot s x = allocation-length (kindBy (s .own)) x (channelBy (s .own)) (paramsBy (s .common)) (leakBy slot (s .common)) (deltasBy s)
-
--- no bins and no segments
-zero-within : (slot : ℕ) → Within 0 slot
-unfolding byteOf
-zero-within slot = record { ends = omega arith; many = omega arith; none = λ h. absurd (omega arith) }
-
-some : (w n : ℕ) → byteOf w 0 ≡ n + 1 → (w ≡ 0 → ⊥)
-unfolding byteOf
-some w n e f = omega arith
 
 -- the word of what all slots have in common
 module _ (q : Codes) (st : AllocState) (fscod w : ℕ) (p : Packs (q .sdcycod ∷ q .fdcycod ∷ q .sgaincod ∷ q .dbpbcod ∷ q .floorcod ∷ fscod ∷ st .cplfleak ∷ st .cplsleak ∷ []) w) where
@@ -138,74 +120,73 @@ module _ (q : Codes) (st : AllocState) (fscod w : ℕ) (p : Packs (q .sdcycod �
   common-coded c = record { fast = rw (p .bytes 6 (omega arith)) (c .fast); slow = rw (p .bytes 7 (omega arith)) (c .slow); rate = rw (p .bytes 5 (omega arith)) (c .rate) }
 
 -- the word of what a slot has of its own
-kind-is : (b : Bool) (x : ℕ) → x ≡ cond b 1 0 → cond (eqb x 1) Hebap Bap ≡ cond b Hebap Bap
-kind-is true x e = rw e
-kind-is false x e = rw e
+kind-is : (b : Bool) (x : ℕ) → x ≡ cond b 2 1 → (cond (eqb x 2) Hebap Bap ≡ cond b Hebap Bap) × (0 < x)
+kind-is true x e = (rw e, omega arith)
+kind-is false x e = (rw e, omega arith)
 
-channel-is : (t : Bool) (r : Range) (c : Channel) (a b f x y : ℕ) → a ≡ binsOf t r .start → b ≡ binsOf t r .end → r .start ≡ c .start → r .end ≡ c .end → f ≡ c .fgain → x ≡ c .csnroffst → y ≡ c .fsnroffst
-    → _≡_ {A = Channel} (record { start = a; end = b; fgain = f; csnroffst = x; fsnroffst = y }) (silenced t c)
-channel-is true r c a b f x y ea eb es ee ef ex ey = rw (ea, eb, ef, ex, ey)
-channel-is false r c a b f x y ea eb es ee ef ex ey = rw (ea, eb, es, ee, ef, ex, ey)
+made : (w : ℕ) → 0 < byteOf w 1 → 0 < w
+unfolding byteOf
+made w h = omega arith
 
-pub own-tells : (st : AllocState) (shape : Shape) (n : List ℕ) (silent : Bool) (slot w m k a b e : ℕ) (r : Range) (t : Bool) → silent ≡ silentOf st shape
-    → m ≡ manyOf n slot → t ≡ getD (shape .ahtinu) slot false → k ≡ cond t 1 0 → r ≡ binsOf silent (rangeOf shape slot) → r .end ≤ 253
-    → a ≡ r .start % 256 → b ≡ r .start / 256 → e ≡ r .end % 256
-    → Packs ((m + 1) ∷ k ∷ a ∷ b ∷ e ∷ getD (st .fgaincod) slot 0 ∷ st .csnroffst ∷ getD (st .fsnroffst) slot 0 ∷ []) w → Tells w st shape n slot
+end-is : (t : Bool) (w x e : ℕ) → x ≤ 253 → e ≡ cond t 0 (x % 256) → (e ≡ cond t 0 x) × (e ≤ 253)
+end-is true w x e h q = (q, omega arith)
+end-is false w x e h q = (omega arith, omega arith)
+
+never : (t u : Bool) → t ≡ u → t ≡ true → u ≡ false → ⊥
+never t u e f g = let z : _≡_ {A = Bool} true false = sym f ∙ e ∙ g in let y : _≡_ {A = ℕ} 0 1 = cc in omega arith
+
+pub owned : (st : AllocState) (shape : Shape) (n : List ℕ) (silent : Bool) (slot w m k a b e : ℕ) (r : Range) (t asked : Bool) → silent ≡ silentOf st shape → asked ≡ requestedOf shape slot → asked ≡ true
+    → m ≡ manyOf n slot → t ≡ getD (shape .ahtinu) slot false → k ≡ cond t 2 1 → r ≡ rangeOf shape slot → r .end ≤ 253 → a ≡ r .start % 256 → b ≡ r .start / 256 → e ≡ cond silent 0 (r .end % 256)
+    → Packs (m ∷ k ∷ a ∷ b ∷ e ∷ getD (st .fgaincod) slot 0 ∷ st .csnroffst ∷ getD (st .fsnroffst) slot 0 ∷ []) w → Owned w st shape n slot
 unfolding kindOf channelOf
-own-tells st shape n silent slot w m k a b e r t es em et ek er he ea eb ee p =
+owned st shape n silent slot w m k a b e r t asked es ea et em eh ek er he es′ eb ee p =
+    let kinds = kind-is t (byteOf w 1) (p .bytes 1 (omega arith) ∙ ek) in
     let starts : startBy w ≡ r .start = let x : byteOf w 2 ≡ a = p .bytes 2 (omega arith) in let y : byteOf w 3 ≡ b = p .bytes 3 (omega arith) in omega arith in
-    let ends : endBy w ≡ r .end = let x : byteOf w 4 ≡ e = p .bytes 4 (omega arith) in omega arith in
+    let ends = end-is silent w (r .end) (endBy w) he (p .bytes 4 (omega arith) ∙ ee) in
     record {
-      many = p .bytes 0 (omega arith) ∙ ap (λ x. x + 1) em;
-      kind = kind-is t (byteOf w 1) (p .bytes 1 (omega arith) ∙ ek) ∙ ap (λ x. cond x Hebap Bap) et;
-      channel = channel-is silent (rangeOf shape slot) (channelOf st shape slot) _ _ _ _ _ (starts ∙ ap (λ x. x .start) er) (ends ∙ ap (λ x. x .end) er) refl refl
-          (ap (λ x. getD fastgain x 0) (p .bytes 5 (omega arith))) (p .bytes 6 (omega arith)) (p .bytes 7 (omega arith)) ∙ ap (λ x. silenced x (channelOf st shape slot)) es;
-      ends = rw ends he;
+      none = λ g. absurd (never asked (requestedOf shape slot) ea et g);
+      some = λ g. made w (kinds .1);
+      many = λ g. p .bytes 0 (omega arith) ∙ em;
+      kind = λ g. kinds .0 ∙ ap (λ x. cond x Hebap Bap) eh;
+      channel = λ g. rw (starts, ends .0, p .bytes 5 (omega arith), p .bytes 6 (omega arith), p .bytes 7 (omega arith), er, es);
+      ends = ends .1;
     }
 
-pub owned : (own : ℕ) (st : AllocState) (shape : Shape) (n : List ℕ) (slot : ℕ) (t : Bool) → t ≡ requestedOf shape slot → t ≡ true → Tells own st shape n slot → Owned own st shape n slot
-owned own st shape n slot t e f h = record { asked = λ g. h; none = λ g. absurd (let z : _≡_ {A = Bool} true false = sym f ∙ e ∙ g in let y : _≡_ {A = ℕ} 0 1 = cc in omega arith) }
-
 pub not-owned : (st : AllocState) (shape : Shape) (n : List ℕ) (slot : ℕ) (t : Bool) → t ≡ requestedOf shape slot → t ≡ false → Owned 0 st shape n slot
-not-owned st shape n slot t e f = record { asked = λ g. absurd (let z : _≡_ {A = Bool} false true = sym f ∙ e ∙ g in let y : _≡_ {A = ℕ} 0 1 = cc in omega arith); none = λ g. refl }
+unfolding byteOf
+not-owned st shape n slot t e f =
+    let z : requestedOf shape slot ≡ true → ⊥ = λ g. never (requestedOf shape slot) t (sym e) g f in
+    record { none = λ g. refl; some = λ g. absurd (z g); many = λ g. absurd (z g); kind = λ g. absurd (z g); channel = λ g. absurd (z g); ends = omega arith }
 
 module _ (st : AllocState) (shape : Shape) (n : List ℕ) where
   pub owns : (a b c d e f g : ℕ) → Owned a st shape n 0 → Owned b st shape n 1 → Owned c st shape n 2 → Owned d st shape n 3 → Owned e st shape n 4 → Owned f st shape n 5 → Owned g st shape n 6
       → Owns (a ∷ b ∷ c ∷ d ∷ e ∷ f ∷ g ∷ []) st shape n
-  owns a b c d e f g oa ob oc od oe of og = record { size = refl; at = λ k l. go k l }
-    where
-      go : (k : ℕ) → k < 7 → Owned (getD (a ∷ b ∷ c ∷ d ∷ e ∷ f ∷ g ∷ []) k 0) st shape n k
-      go zero l = oa
-      go (suc zero) l = ob
-      go (suc (suc zero)) l = oc
-      go (suc (suc (suc zero))) l = od
-      go (suc (suc (suc (suc zero)))) l = oe
-      go (suc (suc (suc (suc (suc zero))))) l = of
-      go (suc (suc (suc (suc (suc (suc zero)))))) l = og
-      go (suc (suc (suc (suc (suc (suc (suc k))))))) l = absurd (let z : ⊥ = omega arith in z)
+  owns a b c d e f g oa ob oc od oe of og = record {
+    size = refl;
+    at = λ k l. each-of-eight (λ k. k < 7 → Owned (getD (a ∷ b ∷ c ∷ d ∷ e ∷ f ∷ g ∷ []) k 0) st shape n k)
+        (λ l. oa) (λ l. ob) (λ l. oc) (λ l. od) (λ l. oe) (λ l. of) (λ l. og) (λ l. absurd (let z : ⊥ = omega arith in z)) k (omega arith) l;
+  }
 
   many-small : (slot : ℕ) (t : Bool) → ltb slot 6 ≡ t → (cond t (min (getD n slot 0) 8) 0 ≤ 8) × (0 < cond t (min (getD n slot 0) 8) 0 → slot < 6)
   many-small slot true e = (omega arith, λ h. ltb-true slot 6 e)
   many-small slot false e = (omega arith, λ h. omega arith)
 
   owned-within : (own slot : ℕ) → Owned own st shape n slot → Within own slot
+  unfolding byteOf
   owned-within own slot o = go (requestedOf shape slot) refl
     where
       go : (t : Bool) → requestedOf shape slot ≡ t → Within own slot
-      go true e =
-          let h = o .asked e in
-          let m = many-small slot (ltb slot 6) refl in
-          record { ends = h .ends; many = let z = m .0 in let y = h .many in omega arith; none = λ x. m .1 (let y = h .many in omega arith) }
-      go false e = rw (o .none e) (zero-within slot)
+      go true e = let m = many-small slot (ltb slot 6) refl in record { ends = o .ends; many = rw (o .many e) (m .0); none = rw (o .many e) (m .1) }
+      go false e = let z = o .none e in record { ends = o .ends; many = omega arith; none = λ h. absurd (omega arith) }
 
   pub owns-words : (own : List ℕ) → Owns own st shape n → Words own
   owns-words own o = record { size = o .size; at = λ k l. owned-within (getD own k 0) k (o .at k l) }
 
 -- the five words say what they are made of
 module _ (own common : ℕ) (offset len ba : List ℕ) (slot : ℕ) where
-  pub says-none : own % 256 ≤ 1 → Says (record { own = own; common = common; offset = 0; len = 0; ba = 0 }) own common (deltasOf own offset len ba slot)
+  pub says-none : own % 256 ≡ 0 → Says (record { own = own; common = common; offset = 0; len = 0; ba = 0 }) own common (deltasOf own offset len ba slot)
   unfolding byteOf deltasOf
-  says-none h = record { own = refl; common = refl; segments = record { many = refl; rest = λ q. absurd (q (omega arith)) } }
+  says-none h = record { own = refl; common = refl; segments = record { many = refl; rest = λ q. absurd (q h) } }
 
   pub says-all : (x y z : ℕ) (xs ys zs : List ℕ) → xs ≡ eightOf offset (8 * slot) → ys ≡ eightOf len (8 * slot) → zs ≡ eightOf ba (8 * slot) → Packs xs x → Packs ys y → Packs zs z
       → Says (record { own = own; common = common; offset = x; len = y; ba = z }) own common (deltasOf own offset len ba slot)
@@ -224,116 +205,71 @@ source-is : (s : Source) (a b c d e : ℕ) → a ≡ s .own → b ≡ s .common 
     → _≡_ {A = Source} (record { own = a; common = b; offset = c; len = d; ba = e }) s
 source-is s a b c d e p q r t u = rw (p, q, r, t, u)
 
-pub kept-by : (memo : List ℕ) (slot : ℕ) (s : Source) (a b c d e t : Bool) → a ≡ eqb (getD memo (6 * slot) 0) (s .own) → b ≡ eqb (getD memo (6 * slot + 1) 0) (s .common)
+pub kept-by : (memo : List ℕ) (slot : ℕ) (s : Source) (a b c d e t : Bool) → (s .own ≡ 0 → ⊥) → a ≡ eqb (getD memo (6 * slot) 0) (s .own) → b ≡ eqb (getD memo (6 * slot + 1) 0) (s .common)
     → c ≡ eqb (getD memo (6 * slot + 2) 0) (s .offset) → d ≡ eqb (getD memo (6 * slot + 3) 0) (s .len) → e ≡ eqb (getD memo (6 * slot + 4) 0) (s .ba)
     → t ≡ (a && b) && (c && (d && e)) → Kept t memo slot s
-kept-by memo slot s a b c d e t ea eb ec ed ee et = record {
-  same = λ h.
+kept-by memo slot s a b c d e t q ea eb ec ed ee et = record {
+  same = λ h l.
       let x = both (a && b) (c && (d && e)) (sym et ∙ h) in
       let y = both a b (x .0) in
       let z = both c (d && e) (x .1) in
       let w = both d e (z .1) in
       source-is s _ _ _ _ _ (eqb-true _ _ (sym ea ∙ y .0)) (eqb-true _ _ (sym eb ∙ y .1)) (eqb-true _ _ (sym ec ∙ z .0)) (eqb-true _ _ (sym ed ∙ w .0)) (eqb-true _ _ (sym ee ∙ w .1));
+  asked = λ h. omega arith;
 }
 
--- six words put one after the other
-module _ (m : List ℕ) (k a b c d e f : ℕ) where
-  abbrev m1 : List ℕ
-  m1 = set m k a
+pub kept-none : (memo : List ℕ) (slot : ℕ) (s : Source) → s .own ≡ 0 → Kept true memo slot s
+kept-none memo slot s e = record { same = λ h l. absurd (omega arith); asked = λ h. absurd (never true false h refl refl) }
 
-  abbrev m2 : List ℕ
-  m2 = set m1 (k + 1) b
+-- words put one after the other from the place k + i on
+abbrev put : List ℕ → ℕ → ℕ → List ℕ → List ℕ
+put m k i [] = m
+put m k i (x ∷ xs) = put (set m (k + i) x) k (suc i) xs
 
-  abbrev m3 : List ℕ
-  m3 = set m2 (k + 2) c
+put-length : (xs m : List ℕ) (k i : ℕ) → length (put m k i xs) ≡ length m
+put-length [] m k i = refl
+put-length (x ∷ xs) m k i = put-length xs (set m (k + i) x) k (suc i) ∙ length-set m (k + i) x
 
-  abbrev m4 : List ℕ
-  m4 = set m3 (k + 3) d
+put-before : (xs m : List ℕ) (k i j : ℕ) → j < k + i → getD (put m k i xs) j 0 ≡ getD m j 0
+put-before [] m k i j h = refl
+put-before (x ∷ xs) m k i j h = put-before xs (set m (k + i) x) k (suc i) j (omega arith) ∙ getD-set-other m (k + i) j x 0 (λ z. omega arith)
 
-  abbrev m5 : List ℕ
-  m5 = set m4 (k + 4) e
+put-after : (xs m : List ℕ) (k i j : ℕ) → k + i + length xs ≤ j → getD (put m k i xs) j 0 ≡ getD m j 0
+put-after [] m k i j h = refl
+put-after (x ∷ xs) m k i j h = put-after xs (set m (k + i) x) k (suc i) j (omega arith) ∙ getD-set-other m (k + i) j x 0 (λ z. omega arith)
 
-  abbrev pub six : List ℕ
-  six = set m5 (k + 5) f
-
-  n1 : length m1 ≡ length m
-  n1 = length-set m k a
-
-  n2 : length m2 ≡ length m
-  n2 = length-set m1 (k + 1) b ∙ n1
-
-  n3 : length m3 ≡ length m
-  n3 = length-set m2 (k + 2) c ∙ n2
-
-  n4 : length m4 ≡ length m
-  n4 = length-set m3 (k + 3) d ∙ n3
-
-  n5 : length m5 ≡ length m
-  n5 = length-set m4 (k + 4) e ∙ n4
-
-  six-length : length six ≡ length m
-  six-length = length-set m5 (k + 5) f ∙ n5
-
-  after-5 : (i : ℕ) → (i ≡ k + 5 → ⊥) → getD six i 0 ≡ getD m5 i 0
-  after-5 i h = getD-set-other m5 (k + 5) i f 0 h
-
-  after-4 : (i : ℕ) → (i ≡ k + 4 → ⊥) → (i ≡ k + 5 → ⊥) → getD six i 0 ≡ getD m4 i 0
-  after-4 i g h = after-5 i h ∙ getD-set-other m4 (k + 4) i e 0 g
-
-  after-3 : (i : ℕ) → i < k + 3 → getD six i 0 ≡ getD m3 i 0
-  after-3 i h = after-4 i (λ z. omega arith) (λ z. omega arith) ∙ getD-set-other m3 (k + 3) i d 0 (λ z. omega arith)
-
-  after-2 : (i : ℕ) → i < k + 2 → getD six i 0 ≡ getD m2 i 0
-  after-2 i h = after-3 i (omega arith) ∙ getD-set-other m2 (k + 2) i c 0 (λ z. omega arith)
-
-  after-1 : (i : ℕ) → i < k + 1 → getD six i 0 ≡ getD m1 i 0
-  after-1 i h = after-2 i (omega arith) ∙ getD-set-other m1 (k + 1) i b 0 (λ z. omega arith)
-
-  six-before : (i : ℕ) → i < k → getD six i 0 ≡ getD m i 0
-  six-before i h = after-1 i (omega arith) ∙ getD-set-other m k i a 0 (λ z. omega arith)
-
-  six-after : (i : ℕ) → k + 6 ≤ i → getD six i 0 ≡ getD m i 0
-  six-after i h =
-      after-4 i (λ z. omega arith) (λ z. omega arith) ∙ getD-set-other m3 (k + 3) i d 0 (λ z. omega arith) ∙ getD-set-other m2 (k + 2) i c 0 (λ z. omega arith)
-      ∙ getD-set-other m1 (k + 1) i b 0 (λ z. omega arith) ∙ getD-set-other m k i a 0 (λ z. omega arith)
-
-  module _ (h : k + 5 < length m) where
-    six-0 : getD six k 0 ≡ a
-    six-0 = after-1 k (omega arith) ∙ getD-set-same m k a 0 (omega arith)
-
-    six-1 : getD six (k + 1) 0 ≡ b
-    six-1 = after-2 (k + 1) (omega arith) ∙ getD-set-same m1 (k + 1) b 0 (let z = n1 in omega arith)
-
-    six-2 : getD six (k + 2) 0 ≡ c
-    six-2 = after-3 (k + 2) (omega arith) ∙ getD-set-same m2 (k + 2) c 0 (let z = n2 in omega arith)
-
-    six-3 : getD six (k + 3) 0 ≡ d
-    six-3 = after-4 (k + 3) (λ z. omega arith) (λ z. omega arith) ∙ getD-set-same m3 (k + 3) d 0 (let z = n3 in omega arith)
-
-    six-4 : getD six (k + 4) 0 ≡ e
-    six-4 = after-5 (k + 4) (λ z. omega arith) ∙ getD-set-same m4 (k + 4) e 0 (let z = n4 in omega arith)
-
-    six-5 : getD six (k + 5) 0 ≡ f
-    six-5 = getD-set-same m5 (k + 5) f 0 (let z = n5 in omega arith)
+put-at : (xs m : List ℕ) (k i j : ℕ) → j < length xs → k + i + length xs ≤ length m → getD (put m k i xs) (k + (i + j)) 0 ≡ getD xs j 0
+put-at (x ∷ xs) m k i zero h l =
+    let e : i + 0 ≡ i = omega arith in
+    rw e (put-before xs (set m (k + i) x) k (suc i) (k + i) (omega arith) ∙ getD-set-same m (k + i) x 0 (omega arith))
+put-at (x ∷ xs) m k i (suc j) h l =
+    let e : i + suc j ≡ suc i + j = omega arith in
+    rw e (put-at xs (set m (k + i) x) k (suc i) j (omega arith) (let z = length-set m (k + i) x in omega arith))
 
 module _ (memo : List ℕ) (slot : ℕ) (s : Source) (t : ℕ) (n : length memo ≡ 42) (h : slot < 7) where
-  fit : 6 * slot + 5 < length memo
-  fit = omega arith
+  abbrev k : ℕ
+  k = 6 * slot
 
-  pub noted-by : Noted memo (six memo (6 * slot) (s .own) (s .common) (s .offset) (s .len) (s .ba) t) slot s t
-  noted-by =
-      record {
-        size = six-length memo (6 * slot) (s .own) (s .common) (s .offset) (s .len) (s .ba) t;
-        source = source-is s _ _ _ _ _
-            (six-0 memo (6 * slot) (s .own) (s .common) (s .offset) (s .len) (s .ba) t fit)
-            (six-1 memo (6 * slot) (s .own) (s .common) (s .offset) (s .len) (s .ba) t fit)
-            (six-2 memo (6 * slot) (s .own) (s .common) (s .offset) (s .len) (s .ba) t fit)
-            (six-3 memo (6 * slot) (s .own) (s .common) (s .offset) (s .len) (s .ba) t fit)
-            (six-4 memo (6 * slot) (s .own) (s .common) (s .offset) (s .len) (s .ba) t fit);
-        tally = six-5 memo (6 * slot) (s .own) (s .common) (s .offset) (s .len) (s .ba) t fit;
-        before = six-before memo (6 * slot) (s .own) (s .common) (s .offset) (s .len) (s .ba) t;
-        after = six-after memo (6 * slot) (s .own) (s .common) (s .offset) (s .len) (s .ba) t;
-      }
+  abbrev ws : List ℕ
+  ws = s .own ∷ s .common ∷ s .offset ∷ s .len ∷ s .ba ∷ t ∷ []
+
+  abbrev new : List ℕ
+  new = set (set (set (set (set (set memo k (s .own)) (k + 1) (s .common)) (k + 2) (s .offset)) (k + 3) (s .len)) (k + 4) (s .ba)) (k + 5) t
+
+  new-is : new ≡ put memo k 0 ws
+  new-is = let e : k ≡ k + 0 = omega arith in ap (λ x. put (set memo x (s .own)) k 1 (s .common ∷ s .offset ∷ s .len ∷ s .ba ∷ t ∷ [])) e
+
+  word-is : (j : ℕ) → j < 6 → getD new (k + j) 0 ≡ getD ws j 0
+  word-is j l = let e : j ≡ 0 + j = omega arith in ap (λ x. getD x (k + j) 0) new-is ∙ ap (λ x. getD (put memo k 0 ws) (k + x) 0) e ∙ put-at ws memo k 0 j l (omega arith)
+
+  pub noted-by : Noted memo new slot s t
+  noted-by = record {
+    size = ap (λ x. length x) new-is ∙ put-length ws memo k 0;
+    source = source-is s _ _ _ _ _ (ap (λ x. getD new x 0) (let e : k ≡ k + 0 = omega arith in e) ∙ word-is 0 (omega arith)) (word-is 1 (omega arith)) (word-is 2 (omega arith)) (word-is 3 (omega arith)) (word-is 4 (omega arith));
+    tally = word-is 5 (omega arith);
+    before = λ i l. ap (λ x. getD x i 0) new-is ∙ put-before ws memo k 0 i (omega arith);
+    after = λ i l. ap (λ x. getD x i 0) new-is ∙ put-after ws memo k 0 i (omega arith);
+  }
 
 -- the tally of a range looks at the pointers of that range alone
 module _ (old new : List ℕ) (slot : ℕ) (same : (k : ℕ) → k < 256 → getD new (256 * slot + k) 0 ≡ getD old (256 * slot + k) 0) where
@@ -450,7 +386,7 @@ module _ (slot : ℕ) (h : slot < 7) (s : Source) (c : Channel) (ec : c ≡ chan
   pub channelled : CodedBy (s .common) → Channelled c l d
   channelled coded =
       let k = codes-leak (byteOf (s .common) 6) (byteOf (s .common) 7) (coded .fast) (coded .slow) in
-      rw (ec, el, ed) (record { within = within .ends; fgain = fastgain-high _; fast = leak-low (eqb slot 5) _ _ (k .0) (k .1) .0; slow = leak-low (eqb slot 5) _ _ (k .0) (k .1) .1; segs = let z = within .many in omega arith })
+      rw (ec, el, ed) (record { within = within .ends; fgain = fastgain-high _; fast = leak-low (eqb slot 5) _ _ (k .0) (k .1) .0; slow = leak-low (eqb slot 5) _ _ (k .0) (k .1) .1; segs = within .many })
 
   module _ (old new exps baps ps shares : List ℕ) (t : ℕ) (so : Memo old exps baps)
       (ps-are : ps ≡ allocation kind (take (256 * slot + 256 - 256 * slot) (drop (256 * slot) exps)) c p l d)
@@ -519,13 +455,6 @@ module _ (slot : ℕ) (h : slot < 7) (s : Source) (c : Channel) (ec : c ≡ chan
       },
     )
 
--- whether a slot is stale
-pub stale-none : (memo : List ℕ) (slot : ℕ) (s : Source) → s .own ≡ 0 → Stale false memo slot s
-stale-none memo slot s e = record { asked = λ f. absurd (let z : _≡_ {A = ℕ} 0 1 = cc in omega arith); kept = λ f h. absurd (omega arith) }
-
-pub stale-kept : (memo : List ℕ) (slot : ℕ) (s : Source) (t : Bool) → Kept t memo slot s → (s .own ≡ 0 → ⊥) → Stale (not t) memo slot s
-stale-kept memo slot s t k q = record { asked = λ e. omega arith; kept = λ e h. k .same (not-false t e) }
-
 -- the pointers of a slot by the words
 module _ (common : ℕ) (offset len ba exps baps : List ℕ) (own slot : ℕ) (s : Source) (says : Says s own common (deltasOf own offset len ba slot)) where
   said : (x : List ℕ) → allocationBy slot s x ≡ allocation (kindBy own) x (channelBy own) (paramsBy common) (leakBy slot common) (deltasOf own offset len ba slot)
@@ -539,14 +468,14 @@ module _ (common : ℕ) (offset len ba exps baps : List ℕ) (own slot : ℕ) (s
   said-some h = let e : eqb own 0 ≡ false = ne-eqb own 0 (λ f. let z = says .own in omega arith) in rw e (ap (λ x. pointedOf baps slot x) (sym (said (expsIn exps slot))))
 
   -- those that are there already
-  pub said-kept : slot < 7 → (t : Bool) (memo : List ℕ) → Stale t memo slot s → t ≡ false → Memo memo exps baps → pointBy common offset len ba exps own baps slot ≡ baps
+  pub said-kept : slot < 7 → (t : Bool) (memo : List ℕ) → Kept t memo slot s → t ≡ true → Memo memo exps baps → pointBy common offset len ba exps own baps slot ≡ baps
   unfolding pointBy
-  said-kept b t memo stale e so = by-cases (decLt 0 (s .own)) (λ h. said-some h ∙ pointed-there baps (so .tallies .sized) slot b (allocationBy slot s (expsIn exps slot)) (by-length slot s (expsIn exps slot)) (here h))
+  said-kept b t memo kept e so = by-cases (decLt 0 (s .own)) (λ h. said-some h ∙ pointed-there baps (so .tallies .sized) slot b (allocationBy slot s (expsIn exps slot)) (by-length slot s (expsIn exps slot)) (here h))
       (λ h. let z : eqb own 0 ≡ true = eq-eqb own 0 (let y = says .own in omega arith) in rw z)
     where
       here : 0 < s .own → (k : ℕ) → k < 256 → getD baps (256 * slot + k) 0 ≡ getD (allocationBy slot s (expsIn exps slot)) k 0
       here h k l =
-          let q = stale .kept e h in
+          let q = kept .same e h in
           so .right slot b (let z : getD memo (6 * slot) 0 ≡ s .own = ap (λ x. x .own) q in rw z h) k l ∙ ap (λ x. getD (allocationBy slot x (expsIn exps slot)) k 0) q
 
 -- slot by slot
@@ -569,10 +498,10 @@ module _ (common : ℕ) (offset len ba own : List ℕ) where
   passes-none memo = record { within = omega arith; there = λ exps baps so. refl }
 
   pub passes-on : (slot : ℕ) (memo : List ℕ) → Passes common offset len ba own slot memo → slot < 7 → (s : Source) → Says s (getD own slot 0) common (deltasOf (getD own slot 0) offset len ba slot)
-      → (t : Bool) → Stale t memo slot s → t ≡ false → Passes common offset len ba own (slot + 1) memo
-  passes-on slot memo so h s says t stale e = record {
+      → (t : Bool) → Kept t memo slot s → t ≡ true → Passes common offset len ba own (slot + 1) memo
+  passes-on slot memo so h s says t kept e = record {
     within = omega arith;
-    there = λ exps baps m. so .there exps baps m ∙ points-next common offset len ba exps own baps slot h baps (said-kept common offset len ba exps baps (getD own slot 0) slot s says h t memo stale e m);
+    there = λ exps baps m. so .there exps baps m ∙ points-next common offset len ba exps own baps slot h baps (said-kept common offset len ba exps baps (getD own slot 0) slot s says h t memo kept e m);
   }
 
 -- what the words say is what the state says
@@ -581,14 +510,14 @@ module _ (q : Codes) (st : AllocState) (shape : Shape) (fscod common : ℕ) (n o
   abbrev d : Segments
   d = segmentsBy n offset len ba
 
-  segments-are : (w slot : ℕ) → byteOf w 0 ≡ manyOf n slot + 1 → Alike (deltasOf w offset len ba slot) (segmentsOf d slot)
+  segments-are : (w slot : ℕ) → byteOf w 0 ≡ manyOf n slot → Alike (deltasOf w offset len ba slot) (segmentsOf d slot)
   unfolding segmentsOf deltasOf
   segments-are w slot = go (ltb slot 6)
     where
-      go : (t : Bool) → byteOf w 0 ≡ cond t (min (getD n slot 0) 8) 0 + 1 → Alike (deltasOf w offset len ba slot)
+      go : (t : Bool) → byteOf w 0 ≡ cond t (min (getD n slot 0) 8) 0 → Alike (deltasOf w offset len ba slot)
           (cond t (record { n = min (getD n slot 0) 8; offset = eightOf offset (8 * slot); len = eightOf len (8 * slot); ba = eightOf ba (8 * slot) }) (record { n = 0; offset = replicate 8 0; len = replicate 8 0; ba = replicate 8 0 }))
-      go true e = let z : byteOf w 0 - 1 ≡ min (getD n slot 0) 8 = omega arith in record { many = z; rest = λ h. deltas-is _ _ _ _ _ _ _ _ z refl refl refl }
-      go false e = record { many = omega arith; rest = λ h. absurd (h (omega arith)) }
+      go true e = record { many = e; rest = λ h. deltas-is _ _ _ _ _ _ _ _ e refl refl refl }
+      go false e = record { many = e; rest = λ h. absurd (h e) }
 
   point-is : (baps : List ℕ) (slot w : ℕ) → Owned w st shape n slot → pointBy common offset len ba exps w baps slot ≡ pointSlot st (paramsFor q fscod) shape d exps baps slot
   unfolding pointBy
@@ -596,11 +525,10 @@ module _ (q : Codes) (st : AllocState) (shape : Shape) (fscod common : ℕ) (n o
     where
       go : (t : Bool) → requestedOf shape slot ≡ t → cond (eqb w 0) baps (pointedOf baps slot (allocation (kindBy w) (expsIn exps slot) (channelBy w) (paramsBy common) (leakBy slot common) (deltasOf w offset len ba slot))) ≡ pointSlot st (paramsFor q fscod) shape d exps baps slot
       go true e =
-          let h = o .asked e in
-          let z : eqb w 0 ≡ false = ne-eqb w 0 (some w (manyOf n slot) (h .many)) in
+          let z : eqb w 0 ≡ false = ne-eqb w 0 (λ f. let y = o .some e in omega arith) in
           rw z (ap (λ x. pointedOf baps slot x)
-          (allocation-alike (kindBy w) (expsIn exps slot) (channelBy w) (paramsBy common) (leakBy slot common) (deltasOf w offset len ba slot) (segmentsOf d slot) (segments-are w slot (h .many))
-          ∙ rw (h .kind, common-params q st fscod common p, common-leak q st fscod common p slot) (pointers-are st (paramsFor q fscod) shape d exps slot (silentOf st shape) refl (channelBy w) (h .channel) (segmentsOf d slot) refl))
+          (allocation-alike (kindBy w) (expsIn exps slot) (channelBy w) (paramsBy common) (leakBy slot common) (deltasOf w offset len ba slot) (segmentsOf d slot) (segments-are w slot (o .many e))
+          ∙ rw (o .kind e, common-params q st fscod common p, common-leak q st fscod common p slot) (pointers-are st (paramsFor q fscod) shape d exps slot (silentOf st shape) refl (channelBy w) (o .channel e) (segmentsOf d slot) refl))
           ∙ sym (slot-asked st (paramsFor q fscod) shape d exps slot baps e))
       go false e = let z : eqb w 0 ≡ true = eq-eqb w 0 (o .none e) in rw z (sym (slot-not-asked st (paramsFor q fscod) shape d exps slot baps e))
 

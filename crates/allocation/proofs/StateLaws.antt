@@ -6,12 +6,12 @@ use mathlib.Core.Logic.{by-cases}
 use Prim.Native.Nat.{ℕ, zero, suc, _+_, _-_, _*_, _≤_, _<_, min}
 use native.Mathlib.Omega.{arith}
 use native.Mathlib.Decide.{ℕ-discrete, decLt}
-use lib.Dec.{eqb, ltb}
+use lib.Dec.{eqb, leb, ltb}
 use lib.ListN.{length, getD, take, drop, replicate, length-append, length-drop, List·getD-append}
 use lib.Seq.{ext-getD, length-take-le, getD-take, getD-drop, getD-append-add}
-use Rattle.alloc.specs.Allocation.{allocation, deltaed}
+use Rattle.alloc.specs.Allocation.{tab, pointer, allocation, deltaed}
 use Rattle.alloc.specs.Premises.{Exponents}
-use borrow.Author.Tests.{ltb-true}
+use borrow.Author.Tests.{ltb-true, le-ltb}
 use Rattle.alloc.specs.declared.Params.{Params}
 use Rattle.alloc.specs.declared.Channel.{Channel}
 use Rattle.alloc.specs.declared.Deltas.{Deltas}
@@ -118,10 +118,18 @@ unfolding allocation
 allocation-length k e c p l d = refl
 
 -- no bins, no pointers but 0
+none-there : (a : Bool) (b x : ℕ) → cond (a && ltb b 0) x 0 ≡ 0
+none-there true b x = rw (le-ltb b 0 (omega arith))
+none-there false b x = refl
+
+tab-none : (f : ℕ → ℕ) → ((i : ℕ) → f i ≡ 0) → (i n : ℕ) → tab f i n ≡ replicate n 0
+tab-none f z i zero = refl
+tab-none f z i (suc n) = rw (z i, tab-none f z (suc i) n)
+
 pub allocation-silent : (t : Bool) (k : Pointers) (e : List ℕ) (c : Channel) (p : Params) (l : Leak) (d : Deltas)
     → allocation k e (silenced t c) p l d ≡ cond t (replicate 256 0) (allocation k e c p l d)
 unfolding allocation
-allocation-silent true k e c p l d = refl
+allocation-silent true k e c p l d = tab-none (λ b. cond (leb (c .start) b && ltb b 0) (pointer k e (silenced true c) p l d b) 0) (λ b. none-there (leb (c .start) b) b (pointer k e (silenced true c) p l d b)) 0 256
 allocation-silent false k e c p l d = refl
 
 -- no segments, whatever their fields are

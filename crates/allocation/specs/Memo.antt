@@ -34,9 +34,9 @@ eightIn w = byteOf w 0 ∷ byteOf w 1 ∷ byteOf w 2 ∷ byteOf w 3 ∷ byteOf w
 pub record Packs (xs : List ℕ) (w : ℕ) : Type 0 where
   pub bytes : (k : ℕ) → k < 8 → byteOf w k ≡ getD xs k 0
 
--- the arguments of an allocation in words. The slot's own: one more than the number of segments, the kind, the channel
+-- the arguments of an allocation in words. The slot's own: the number of segments, 1 or 2 for the kind, the channel
 abbrev pub kindBy : ℕ → Pointers
-kindBy own = cond (eqb (byteOf own 1) 1) Hebap Bap
+kindBy own = cond (eqb (byteOf own 1) 2) Hebap Bap
 
 abbrev pub startBy : ℕ → ℕ
 startBy own = byteOf own 2 + 256 * byteOf own 3
@@ -56,7 +56,7 @@ leakBy slot common = cond (eqb slot CPL) (leakOf (byteOf common 6) (byteOf commo
 
 -- and the segments
 abbrev pub deltasBy : Source → Deltas
-deltasBy s = record { n = byteOf (s .own) 0 - 1; offset = eightIn (s .offset); len = eightIn (s .len); ba = eightIn (s .ba) }
+deltasBy s = record { n = byteOf (s .own) 0; offset = eightIn (s .offset); len = eightIn (s .len); ba = eightIn (s .ba) }
 
 unfoldable pub allocationBy : ℕ → Source → List ℕ → List ℕ
 allocationBy slot s exps = allocation (kindBy (s .own)) exps (channelBy (s .own)) (paramsBy (s .common)) (leakBy slot (s .common)) (deltasBy s)
@@ -71,17 +71,14 @@ pub record CodedBy (common : ℕ) : Type 0 where
 abbrev pub manyOf : List ℕ → ℕ → ℕ
 manyOf n slot = cond (ltb slot LFE) (min (getD n slot 0) 8) 0
 
--- a slot's own word says this of it
-pub record Tells (own : ℕ) (st : AllocState) (shape : Shape) (n : List ℕ) (slot : ℕ) : Type 0 where
-  pub many : byteOf own 0 ≡ manyOf n slot + 1
-  pub kind : kindBy own ≡ kindOf shape slot
-  pub channel : channelBy own ≡ silenced (silentOf st shape) (channelOf st shape slot)
-  pub ends : endBy own ≤ 253
-
--- or is 0, where the slot is not asked for
+-- a slot's own word says this of it, and is 0 where the slot is not asked for
 pub record Owned (own : ℕ) (st : AllocState) (shape : Shape) (n : List ℕ) (slot : ℕ) : Type 0 where
-  pub asked : requestedOf shape slot ≡ true → Tells own st shape n slot
   pub none : requestedOf shape slot ≡ false → own ≡ 0
+  pub some : requestedOf shape slot ≡ true → 0 < own
+  pub many : requestedOf shape slot ≡ true → byteOf own 0 ≡ manyOf n slot
+  pub kind : requestedOf shape slot ≡ true → kindBy own ≡ kindOf shape slot
+  pub channel : requestedOf shape slot ≡ true → channelBy own ≡ silenced (silentOf st shape) (channelOf st shape slot)
+  pub ends : endBy own ≤ 253
 
 pub record Owns (own : List ℕ) (st : AllocState) (shape : Shape) (n : List ℕ) : Type 0 where
   pub size : length own ≡ 7
@@ -90,8 +87,8 @@ pub record Owns (own : List ℕ) (st : AllocState) (shape : Shape) (n : List ℕ
 -- what allocation asks of the word: bins up to 252, at most eight segments, and none of the LFE channel
 pub record Within (own slot : ℕ) : Type 0 where
   pub ends : endBy own ≤ 253
-  pub many : byteOf own 0 ≤ 9
-  pub none : 1 < byteOf own 0 → slot < LFE
+  pub many : byteOf own 0 ≤ 8
+  pub none : 0 < byteOf own 0 → slot < LFE
 
 pub record Words (own : List ℕ) : Type 0 where
   pub size : length own ≡ 7
@@ -99,7 +96,7 @@ pub record Words (own : List ℕ) : Type 0 where
 
 -- as many segments as the word says, of those that are lent
 unfoldable pub deltasOf : ℕ → List ℕ → List ℕ → List ℕ → ℕ → Deltas
-deltasOf own offset len ba slot = record { n = byteOf own 0 - 1; offset = eightOf offset (8 * slot); len = eightOf len (8 * slot); ba = eightOf ba (8 * slot) }
+deltasOf own offset len ba slot = record { n = byteOf own 0; offset = eightOf offset (8 * slot); len = eightOf len (8 * slot); ba = eightOf ba (8 * slot) }
 
 -- five words of which the first two are these, and the others say these segments
 pub record Says (s : Source) (w v : ℕ) (d : Deltas) : Type 0 where
@@ -136,9 +133,10 @@ pub record Memo (memo exps baps : List ℕ) : Type 0 where
 unfoldable pub staleOf : List ℕ → ℕ → List ℕ
 staleOf memo slot = cond (ltb slot 7) (set memo (6 * slot) 0) memo
 
--- what is kept of a slot is this, if t holds
+-- t holds where what is kept of a slot is this, or where the slot is not asked for
 pub record Kept (t : Bool) (memo : List ℕ) (slot : ℕ) (s : Source) : Type 0 where
-  pub same : t ≡ true → sourceAt memo slot ≡ s
+  pub same : t ≡ true → 0 < s .own → sourceAt memo slot ≡ s
+  pub asked : t ≡ false → 0 < s .own
 
 -- this and a tally are kept of one slot, the others as they were
 pub record Noted (old new : List ℕ) (slot : ℕ) (s : Source) (t : ℕ) : Type 0 where
@@ -147,11 +145,6 @@ pub record Noted (old new : List ℕ) (slot : ℕ) (s : Source) (t : ℕ) : Type
   pub tally : getD new (6 * slot + 5) 0 ≡ t
   pub before : (k : ℕ) → k < 6 * slot → getD new k 0 ≡ getD old k 0
   pub after : (k : ℕ) → 6 * slot + 6 ≤ k → getD new k 0 ≡ getD old k 0
-
--- whether a slot is asked for and not kept
-pub record Stale (t : Bool) (memo : List ℕ) (slot : ℕ) (s : Source) : Type 0 where
-  pub asked : t ≡ true → 0 < s .own
-  pub kept : t ≡ false → 0 < s .own → sourceAt memo slot ≡ s
 
 -- the pointers of a slot by its own word and by what all slots have in common, as they are where the word is 0; those of n slots from the slot `slot` on
 module _ (common : ℕ) (offset len ba exps : List ℕ) where

@@ -13,7 +13,6 @@ use alloc::Pointers;
 use mantissas::tally::shares;
 use slots::CPL;
 use slots::LFE;
-use slots::Range;
 use slots::Shape;
 use slots::hybrid;
 use slots::range_at;
@@ -28,10 +27,9 @@ ghost use Rattle.alloc.specs.Allocation.{tab};
 ghost use Rattle.alloc.specs.Premises.{Lent};
 ghost use Rattle.mantissas.specs.Tally.{shareOf};
 ghost use Rattle.slots.specs.Held.{Held};
-ghost use Rattle.slots.specs.Slots.{rangeOf};
 ghost use Rattle.allocation.specs.State.{freshState, eightOf, silentOf, expsIn, pointedOf, allocated, allocatedOf, segmentsBy};
-ghost use Rattle.allocation.specs.Coded.{Coded, binsOf};
-ghost use Rattle.allocation.specs.Memo.{Packs, kindBy, channelBy, paramsBy, leakBy, deltasBy, allocationBy, manyOf, Tells, Owned, Owns, Within, Words, CodedBy, deltasOf, Says, Stale, pointsBy, Passes, Memo};
+ghost use Rattle.allocation.specs.Coded.{Coded};
+ghost use Rattle.allocation.specs.Memo.{Packs, kindBy, channelBy, paramsBy, leakBy, deltasBy, allocationBy, manyOf, Owned, Owns, Within, Words, CodedBy, deltasOf, Says, pointsBy, Passes, Memo};
 
 pub mod memo; // what is kept of the last allocation of each slot
 
@@ -140,7 +138,7 @@ fn silent(st: AllocState, shape: Shape) -> bool
 
 // How many segments a slot has; the LFE channel has none.
 fn many(n: &[u8; 6], slot: u8) -> u8
-    ensures { λ r. ⌜ (r ≡ manyOf (now (n .entry)) slot) × (r ≤ 8) ⌝ }
+    ensures { λ r. ⌜ r ≡ manyOf (now (n .entry)) slot ⌝ }
 {
     if slot < LFE {
         let i = slot as usize;
@@ -149,21 +147,16 @@ fn many(n: &[u8; 6], slot: u8) -> u8
     0
 }
 
-// The bins of a slot; none where the block is silent.
-fn bins(shape: Shape, slot: u8, silent: bool) -> Range
-    requires { ⌜ slot < 7 ⌝ }
-    ensures { λ r. ⌜ (r ≡ binsOf silent (rangeOf shape slot)) × (r .end ≤ 253) ⌝ }
+fn kind_code(hybrid: bool) -> u8
+    ensures { λ r. ⌜ r ≡ cond hybrid 2 1 ⌝ }
 {
-    if silent {
-        return Range { start: 0, end: 0 };
-    }
-    range_at(shape, slot)
+    if hybrid { 2 } else { 1 }
 }
 
-fn one_if(b: bool) -> u8
-    ensures { λ r. ⌜ r ≡ cond b 1 0 ⌝ }
+fn unless(b: bool, x: u8) -> u8
+    ensures { λ r. ⌜ r ≡ cond b 0 x ⌝ }
 {
-    if b { 1 } else { 0 }
+    if b { 0 } else { x }
 }
 
 // The low and the high byte of a number.
@@ -179,37 +172,30 @@ fn high(x: u16) -> u8
     (x / 256) as u8
 }
 
-// The word of what a slot has of its own: how many segments there are, the kind, the channel.
-fn own_of(st: AllocState, shape: Shape, n: &[u8; 6], silent: bool, slot: u8) -> u64
+// The word of what a slot has of its own: how many segments there are, the kind, the channel. 0 where its pointers are
+// not asked for.
+fn own_at(st: AllocState, shape: Shape, n: &[u8; 6], silent: bool, slot: u8) -> u64
     requires { ⌜ (slot < 7) × (silent ≡ silentOf st shape) ⌝ }
-    ensures { λ r. ⌜ Tells r st shape (now (n .entry)) slot ⌝ }
+    ensures { λ r. ⌜ Owned r st shape (now (n .entry)) slot ⌝ }
 {
+    if !requested(shape, slot) {
+        return 0;
+    }
     let i = slot as usize;
-    let r = bins(shape, slot, silent);
+    let r = range_at(shape, slot);
     word(
-        many(n, slot) + 1,
-        one_if(hybrid(shape, slot)),
+        many(n, slot),
+        kind_code(hybrid(shape, slot)),
         low(r.start),
         high(r.start),
-        low(r.end),
+        unless(silent, low(r.end)),
         st.fgaincod[i],
         st.csnroffst,
         st.fsnroffst[i],
     )
 }
 
-// This word, or 0 where the pointers of the slot are not asked for.
-fn own_at(st: AllocState, shape: Shape, n: &[u8; 6], silent: bool, slot: u8) -> u64
-    requires { ⌜ (slot < 7) × (silent ≡ silentOf st shape) ⌝ }
-    ensures { λ r. ⌜ Owned r st shape (now (n .entry)) slot ⌝ }
-{
-    if requested(shape, slot) {
-        return own_of(st, shape, n, silent, slot);
-    }
-    0
-}
-
-// Those of all slots.
+// The own words of all slots.
 fn own_words(st: AllocState, shape: Shape, n: &[u8; 6]) -> [u64; 7]
     ensures { λ r. ⌜ Owns r st shape (now (n .entry)) ⌝ }
 {
@@ -253,7 +239,7 @@ fn source_of(
     requires { ⌜ Within own slot ⌝ }
     ensures { λ r. ⌜ Says r own common (deltasOf own (now (offset .entry)) (now (len .entry)) (now (ba .entry)) slot) ⌝ }
 {
-    if own % 256 <= 1 {
+    if own % 256 == 0 {
         return Source {
             own: own,
             common: common,
@@ -269,17 +255,6 @@ fn source_of(
         len: word_of(eight(len, slot)),
         ba: word_of(eight(ba, slot)),
     }
-}
-
-// Whether the pointers of a slot are asked for and are not kept.
-fn stale_at(memo: &[u64; 42], slot: u8, s: Source) -> bool
-    requires { ⌜ (length (now memo) ≡ 42) × (slot < 7) ⌝ }
-    ensures { λ r. ⌜ Stale r (now (memo .entry)) slot s ⌝ }
-{
-    if s.own == 0 {
-        return false;
-    }
-    !kept(memo, slot as usize, s)
 }
 
 // What the words say.
@@ -300,7 +275,7 @@ fn kind_in(own: u64) -> Pointers
     ensures { λ r. ⌜ r ≡ kindBy own ⌝ }
 {
     let b = bytes(own);
-    if b[1] == 1 {
+    if b[1] == 2 {
         return Pointers::Hebap;
     }
     Pointers::Bap
@@ -323,18 +298,12 @@ fn leak_in(common: u64, slot: u8) -> Leak
     Leak::Absent
 }
 
-fn one_less(x: u8) -> usize
-    ensures { λ r. ⌜ r ≡ x - 1 ⌝ }
-{
-    if 0 < x { (x - 1) as usize } else { 0 }
-}
-
 fn deltas_in(s: Source) -> Deltas
     ensures { λ r. ⌜ r ≡ deltasBy s ⌝ }
 {
     let b = bytes(s.own);
     Deltas {
-        n: one_less(b[0]),
+        n: index(b[0]),
         offset: bytes(s.offset),
         len: bytes(s.len),
         ba: bytes(s.ba),
@@ -402,7 +371,7 @@ fn first_stale(
     while slot < 7 {
         let i = slot as usize;
         let s = source_of(own[i], common, offset, len, ba, slot);
-        if stale_at(memo, slot, s) {
+        if !kept(memo, i, s) {
             return slot;
         }
         slot += 1;
@@ -438,7 +407,7 @@ fn point_slots(
     while slot < 7 {
         let i = slot as usize;
         let s = source_of(own[i], common, offset, len, ba, slot);
-        if stale_at(memo, slot, s) {
+        if !kept(memo, i, s) {
             renew(
                 &latab,
                 &masktab,

@@ -72,11 +72,14 @@ pub fn bytes(w: u64) -> [u8; 8]
     ]
 }
 
-// Whether a slot is kept, and was computed from this.
+// Whether a slot is kept and was computed from this, or is not asked for.
 pub fn kept(memo: &[u64; 42], slot: usize, s: Source) -> bool
     requires { ⌜ (length (now memo) ≡ 42) × (slot < 7) ⌝ }
     ensures { λ r. ⌜ Kept r (now (memo .entry)) slot s ⌝ }
 {
+    if s.own == 0 {
+        return true;
+    }
     let k = 6 * slot;
     let own = memo[k] == s.own;
     let common = memo[k + 1] == s.common;

@@ -1,5 +1,6 @@
 use native.Mathlib.Omega.{arith}
 use Prim.Native.Nat.{_-_}
+use borrow.Author.Tests.{not-false}
 use Rattle.allocation.specs.Memo.{Passes}
 use Rattle.allocation.proofs.MemoLaws.{passes-none, passes-on}
 use borrow.Author.Needs.{needs}
@@ -21,8 +22,8 @@ element-copy-out-source-of c = omega (arith, c .before .before .pre .1 .size, c 
 source-of-requires : tie.Need-source-of-requires Inv-loop μ-loop
 source-of-requires c κs = c .before .before .before .pre .1 .at _ (c .before .loop-test .taken)
 
-stale-at-requires : tie.Need-stale-at-requires Inv-loop μ-loop
-stale-at-requires c κs = (c .before .before .before .before .pre .0, c .before .before .loop-test .taken)
+kept-requires : tie.Need-kept-requires Inv-loop μ-loop
+kept-requires c κs = (c .before .before .before .before .pre .0, c .before .before .loop-test .taken)
 
 returns : tie.Need-returns Inv-loop μ-loop
 returns c = c .before .before .before .before .before .loop .inv
@@ -34,11 +35,11 @@ loop-less : tie.Need-loop-less Inv-loop μ-loop
 loop-less c = omega (arith, c .before .before .before .before .loop-test .taken)
 
 loop-again : tie.Need-loop-again Inv-loop μ-loop
-loop-again c = passes-on _ _ _ _ _ _ _ (c .before .before .before .before .before .loop .inv) (c .before .before .before .before .loop-test .taken) _ (c .before .before .source-of .ensures) _ (c .before .stale-at .ensures) (c .if1 .left)
+loop-again c = passes-on _ _ _ _ _ _ _ (c .before .before .before .before .before .loop .inv) (c .before .before .before .before .loop-test .taken) _ (c .before .before .source-of .ensures) _ (c .before .kept .ensures) (not-false _ (c .if1 .left))
 
 returns-2 : tie.Need-returns-2 Inv-loop μ-loop
 returns-2 c = c .before .loop .inv
 
 pub first-stale-spec : {M : Type 1} → statement M
 first-stale-spec =
-    tie.close (tie.spec Inv-loop μ-loop loop-holds (λ c. search needs) (λ c. search needs) element-copy-out-source-of source-of-requires stale-at-requires returns add-slot loop-less loop-again returns-2)
+    tie.close (tie.spec Inv-loop μ-loop loop-holds (λ c. search needs) (λ c. search needs) element-copy-out-source-of source-of-requires kept-requires returns add-slot loop-less loop-again returns-2)

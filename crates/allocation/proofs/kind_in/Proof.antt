@@ -6,10 +6,10 @@ use Rattle.allocation.proofs.kind_in.Statement.{statement}
 use Rattle.allocation.proofs.kind_in.Tie as tie
 
 returns : tie.Need-returns
-returns c = rw (eq-eqb _ 1 (sym (ap (λ x. getD x 1 0) (c .before .bytes .ensures)) ∙ c .if1 .taken))
+returns c = rw (eq-eqb _ 2 (sym (ap (λ x. getD x 1 0) (c .before .bytes .ensures)) ∙ c .if1 .taken))
 
 returns-2 : tie.Need-returns-2
-returns-2 c = rw (ne-eqb _ 1 (λ e. c .if1 .left (ap (λ x. getD x 1 0) (c .before .bytes .ensures) ∙ e)))
+returns-2 c = rw (ne-eqb _ 2 (λ e. c .if1 .left (ap (λ x. getD x 1 0) (c .before .bytes .ensures) ∙ e)))
 
 pub kind-in-spec : {M : Type 1} → statement M
 kind-in-spec =

@@ -1,4 +1,3 @@
-use native.Mathlib.Omega.{arith}
 use mathlib.Core.Path.{_≡_, refl, sym, ap, _∙_}
 use borrow.Author.Tests.{lt-ltb, le-ltb}
 use borrow.Author.Needs.{needs}
@@ -6,10 +5,10 @@ use Rattle.allocation.proofs.many.Statement.{statement}
 use Rattle.allocation.proofs.many.Tie as tie
 
 returns : tie.Need-returns
-returns c = (rw (lt-ltb _ 6 (c .before .before .if1 .taken)) (c .least .ensures), omega (arith, c .least .ensures))
+returns c = rw (lt-ltb _ 6 (c .before .before .if1 .taken)) (c .least .ensures)
 
 returns-2 : tie.Need-returns-2
-returns-2 c = (rw (le-ltb _ 6 (c .if1 .left)), omega arith)
+returns-2 c = rw (le-ltb _ 6 (c .if1 .left))
 
 pub many-spec : {M : Type 1} → statement M
 many-spec =

@@ -2,6 +2,7 @@ use native.Mathlib.Omega.{arith}
 use mathlib.Core.Path.{_≡_, refl, sym, ap, _∙_}
 use mathlib.Core.Logic.{⊎-elim}
 use Prim.Native.Nat.{_-_, _≤_}
+use borrow.Author.Tests.{not-true, not-false}
 use Rattle.allocation.specs.Memo.{Memo, pointsBy}
 use Rattle.allocation.proofs.MemoLaws.{said-some, said-kept, points-next, points-done}
 use borrow.Author.Needs.{needs}
@@ -24,8 +25,8 @@ element-copy-out-source-of c = omega (arith, c .before .before .before .before .
 source-of-requires : tie.Need-source-of-requires Inv-loop μ-loop
 source-of-requires c κs = c .before .before .before .before .before .before .before .before .before .before .pre .2 .at _ (c .before .loop-test .taken)
 
-stale-at-requires : tie.Need-stale-at-requires Inv-loop μ-loop
-stale-at-requires c κs = (c .before .before .before .before .loop .inv .2 .tallies .size, c .before .before .before .loop-test .taken)
+kept-requires : tie.Need-kept-requires Inv-loop μ-loop
+kept-requires c κs = (c .before .before .before .before .loop .inv .2 .tallies .size, c .before .before .before .loop-test .taken)
 
 renew-requires : tie.Need-renew-requires Inv-loop μ-loop
 renew-requires c κs =
@@ -45,10 +46,10 @@ loop-again c =
     let h = c .before .before .before .before .before .loop-test .taken in
     let inv = c .before .before .before .before .before .before .loop .inv in
     let s = c .before .before .before .source-of .ensures in
-    let k = c .before .stale-at .ensures in
+    let k = c .before .kept .ensures in
     ⊎-elim
-    (λ w. (omega arith, inv .1 ∙ points-next _ _ _ _ _ _ _ _ h _ (said-some _ _ _ _ _ _ _ _ _ s (k .asked (w .0 .taken)) ∙ sym (w .11 ∙ w .10 .ensures .0)), rw (w .11, w .12) (w .10 .ensures .1)))
-    (λ w. (omega arith, inv .1 ∙ points-next _ _ _ _ _ _ _ _ h _ (said-kept _ _ _ _ _ _ _ _ _ s h _ _ k (w .0 .left) (inv .2) ∙ sym (w .1)), rw (w .1, w .2) (inv .2)))
+    (λ w. (omega arith, inv .1 ∙ points-next _ _ _ _ _ _ _ _ h _ (said-some _ _ _ _ _ _ _ _ _ s (k .asked (not-true _ (w .0 .taken))) ∙ sym (w .11 ∙ w .10 .ensures .0)), rw (w .11, w .12) (w .10 .ensures .1)))
+    (λ w. (omega arith, inv .1 ∙ points-next _ _ _ _ _ _ _ _ h _ (said-kept _ _ _ _ _ _ _ _ _ s h _ _ k (not-false _ (w .0 .left)) (inv .2) ∙ sym (w .1)), rw (w .1, w .2) (inv .2)))
     (c .if1 .came)
 
 returns : tie.Need-returns Inv-loop μ-loop
@@ -56,4 +57,4 @@ returns c = (sym (c .before .loop .inv .1 ∙ points-done _ _ _ _ _ _ _ _ (c .lo
 
 pub point-slots-spec : {M : Type 1} → statement M
 point-slots-spec =
-    tie.close (tie.spec Inv-loop μ-loop (λ c κs. search needs) (λ c κs. search needs) (λ c κs. search needs) (λ c κs. search needs) (λ c κs. search needs) (λ c κs. search needs) (λ c κs. search needs) loop-holds (λ c. search needs) (λ c. search needs) element-copy-out-source-of source-of-requires stale-at-requires renew-requires add-slot loop-less loop-again returns)
+    tie.close (tie.spec Inv-loop μ-loop (λ c κs. search needs) (λ c κs. search needs) (λ c κs. search needs) (λ c κs. search needs) (λ c κs. search needs) (λ c κs. search needs) (λ c κs. search needs) loop-holds (λ c. search needs) (λ c. search needs) element-copy-out-source-of source-of-requires kept-requires renew-requires add-slot loop-less loop-again returns)

@@ -1,3 +1,4 @@
+use native.Mathlib.Omega.{arith}
 use Rattle.allocation.specs.Memo.{byteOf}
 use Rattle.allocation.proofs.MemoLaws.{says-none, says-all}
 use borrow.Author.Needs.{needs}
@@ -9,15 +10,15 @@ returns c = says-none _ _ _ _ _ _ (c .if1 .taken)
 
 eight-requires : tie.Need-eight-requires
 unfolding byteOf
-eight-requires c κs = c .before .pre .none (c .if1 .left)
+eight-requires c κs = c .before .pre .none (let z = c .if1 .left in omega arith)
 
 eight-requires-2 : tie.Need-eight-requires-2
 unfolding byteOf
-eight-requires-2 c κs = c .before .before .before .pre .none (c .before .before .if1 .left)
+eight-requires-2 c κs = c .before .before .before .pre .none (let z = c .before .before .if1 .left in omega arith)
 
 eight-requires-3 : tie.Need-eight-requires-3
 unfolding byteOf
-eight-requires-3 c κs = c .before .before .before .before .before .pre .none (c .before .before .before .before .if1 .left)
+eight-requires-3 c κs = c .before .before .before .before .before .pre .none (let z = c .before .before .before .before .if1 .left in omega arith)
 
 returns-2 : tie.Need-returns-2
 returns-2 c = says-all _ _ _ _ _ _ _ _ _ _ _ _ (c .before .before .before .before .before .eight .ensures) (c .before .before .before .eight2 .ensures) (c .before .eight3 .ensures) (c .before .before .before .before .word-of .ensures) (c .before .before .word-of2 .ensures) (c .word-of3 .ensures)
