@@ -9,7 +9,7 @@ use native.Mathlib.Decide.{ℕ-discrete, decLt}
 use lib.Dec.{eqb, ltb}
 use lib.ListN.{length, getD, take, drop, set, replicate, length-set, length-replicate, getD-replicate}
 use lib.Seq.{ext-getD, getD-set-same, getD-set-other, getD-take, getD-drop}
-use borrow.Author.Tests.{eqb-true, eq-eqb, ne-eqb, ltb-true, ltb-false}
+use borrow.Author.Tests.{eqb-true, eq-eqb, ne-eqb, le-ltb, ltb-true, ltb-false}
 use Rattle.tables.specs.BitAllocation.{fastgain}
 use Rattle.tables.proofs.Limits.{fastgain-high}
 use Rattle.alloc.specs.Allocation.{tab, allocation, leakOf, fastOf, slowOf}
@@ -31,7 +31,7 @@ use Rattle.mantissas.proofs.TallyLaws.{share-at, total-is}
 use Rattle.allocation.proofs.Unmet.{pointer-within}
 use Rattle.allocation.specs.State.{eightOf, segmentsBy, segmentsOf, Alike, silentOf, channelOf, expsIn, pointedOf, pointSlot, pointSlots, kindOf, leakFor, paramsFor}
 use Rattle.allocation.specs.Coded.{Coded, silenced}
-use Rattle.allocation.specs.Memo.{byteOf, eightIn, Packs, kindBy, startBy, endBy, channelBy, paramsBy, leakBy, deltasBy, allocationBy, CodedBy, manyOf, Owned, Owns, Within, Words, deltasOf, Says, sourceAt, Tallies, Memo, staleOf, Kept, Noted, pointBy, pointsBy, Passes}
+use Rattle.allocation.specs.Memo.{byteOf, eightIn, Packs, kindBy, startBy, endBy, channelBy, paramsBy, leakBy, deltasBy, manyBy, allocationBy, CodedBy, Owned, Owns, deltasOf, Says, sourceAt, Tallies, Memo, staleOf, Kept, Noted, pointBy, pointsBy, Passes}
 use Rattle.allocation.specs.declared.Codes.{Codes}
 use Rattle.allocation.specs.declared.AllocState.{AllocState}
 use Rattle.allocation.specs.declared.Segments.{Segments}
@@ -98,13 +98,17 @@ packs-is xs w n p = ext-getD 0 (eightIn w) xs (sym n) (λ k l. each-of-eight (λ
 deltas-is : (n n′ : ℕ) (o l b o′ l′ b′ : List ℕ) → n ≡ n′ → o ≡ o′ → l ≡ l′ → b ≡ b′ → _≡_ {A = Deltas} (record { n = n; offset = o; len = l; ba = b }) (record { n = n′; offset = o′; len = l′; ba = b′ })
 deltas-is n n′ o l b o′ l′ b′ p q r s = rw (p, q, r, s)
 
+few : (t : Bool) (x : ℕ) → cond t (min x 8) 0 ≤ 8
+few true x = omega arith
+few false x = omega arith
+
 leak-low : (t : Bool) (f s : ℕ) → fastOf (leakOf f s) ≤ 2560 → slowOf (leakOf f s) ≤ 2560 → (fastOf (cond t (leakOf f s) Absent) ≤ 2560) × (slowOf (cond t (leakOf f s) Absent) ≤ 2560)
 leak-low true f s g h = (g, h)
 leak-low false f s g h = (omega arith, omega arith)
 
 by-length : (slot : ℕ) (s : Source) (x : List ℕ) → length (allocationBy slot s x) ≡ 256
 unfolding allocationBy
-by-length slot s x = allocation-length (kindBy (s .own)) x (channelBy (s .own)) (paramsBy (s .common)) (leakBy slot (s .common)) (deltasBy s)
+by-length slot s x = allocation-length (kindBy (s .own)) x (channelBy (s .own)) (paramsBy (s .common)) (leakBy slot (s .common)) (deltasBy slot s)
 
 -- the word of what all slots have in common
 module _ (q : Codes) (st : AllocState) (fscod w : ℕ) (p : Packs (q .sdcycod ∷ q .fdcycod ∷ q .sgaincod ∷ q .dbpbcod ∷ q .floorcod ∷ fscod ∷ st .cplfleak ∷ st .cplsleak ∷ []) w) where
@@ -128,68 +132,54 @@ made : (w : ℕ) → 0 < byteOf w 1 → 0 < w
 unfolding byteOf
 made w h = omega arith
 
-end-is : (t : Bool) (w x e : ℕ) → x ≤ 253 → e ≡ cond t 0 (x % 256) → (e ≡ cond t 0 x) × (e ≤ 253)
-end-is true w x e h q = (q, omega arith)
-end-is false w x e h q = (omega arith, omega arith)
+end-is : (t : Bool) (x e : ℕ) → x ≤ 253 → e ≡ cond t 0 (x % 256) → min e 253 ≡ cond t 0 x
+end-is true x e h q = omega arith
+end-is false x e h q = omega arith
 
 never : (t u : Bool) → t ≡ u → t ≡ true → u ≡ false → ⊥
 never t u e f g = let z : _≡_ {A = Bool} true false = sym f ∙ e ∙ g in let y : _≡_ {A = ℕ} 0 1 = cc in omega arith
 
 pub owned : (st : AllocState) (shape : Shape) (n : List ℕ) (silent : Bool) (slot w m k a b e : ℕ) (r : Range) (t asked : Bool) → silent ≡ silentOf st shape → asked ≡ requestedOf shape slot → asked ≡ true
-    → m ≡ manyOf n slot → t ≡ getD (shape .ahtinu) slot false → k ≡ cond t 2 1 → r ≡ rangeOf shape slot → r .end ≤ 253 → a ≡ r .start % 256 → b ≡ r .start / 256 → e ≡ cond silent 0 (r .end % 256)
+    → m ≡ cond (ltb slot 6) (getD n slot 0) 0 → t ≡ getD (shape .ahtinu) slot false → k ≡ cond t 2 1 → r ≡ rangeOf shape slot → r .end ≤ 253 → a ≡ r .start % 256 → b ≡ r .start / 256 → e ≡ cond silent 0 (r .end % 256)
     → Packs (m ∷ k ∷ a ∷ b ∷ e ∷ getD (st .fgaincod) slot 0 ∷ st .csnroffst ∷ getD (st .fsnroffst) slot 0 ∷ []) w → Owned w st shape n slot
 unfolding kindOf channelOf
 owned st shape n silent slot w m k a b e r t asked es ea et em eh ek er he es′ eb ee p =
     let kinds = kind-is t (byteOf w 1) (p .bytes 1 (omega arith) ∙ ek) in
     let starts : startBy w ≡ r .start = let x : byteOf w 2 ≡ a = p .bytes 2 (omega arith) in let y : byteOf w 3 ≡ b = p .bytes 3 (omega arith) in omega arith in
-    let ends = end-is silent w (r .end) (endBy w) he (p .bytes 4 (omega arith) ∙ ee) in
+    let ends = end-is silent (r .end) (byteOf w 4) he (p .bytes 4 (omega arith) ∙ ee) in
     record {
       none = λ g. absurd (never asked (requestedOf shape slot) ea et g);
       some = λ g. made w (kinds .1);
       many = λ g. p .bytes 0 (omega arith) ∙ em;
       kind = λ g. kinds .0 ∙ ap (λ x. cond x Hebap Bap) eh;
-      channel = λ g. rw (starts, ends .0, p .bytes 5 (omega arith), p .bytes 6 (omega arith), p .bytes 7 (omega arith), er, es);
-      ends = ends .1;
+      channel = λ g. rw (starts, ends, p .bytes 5 (omega arith), p .bytes 6 (omega arith), p .bytes 7 (omega arith), er, es);
     }
 
 pub not-owned : (st : AllocState) (shape : Shape) (n : List ℕ) (slot : ℕ) (t : Bool) → t ≡ requestedOf shape slot → t ≡ false → Owned 0 st shape n slot
-unfolding byteOf
 not-owned st shape n slot t e f =
     let z : requestedOf shape slot ≡ true → ⊥ = λ g. never (requestedOf shape slot) t (sym e) g f in
-    record { none = λ g. refl; some = λ g. absurd (z g); many = λ g. absurd (z g); kind = λ g. absurd (z g); channel = λ g. absurd (z g); ends = omega arith }
+    record { none = λ g. refl; some = λ g. absurd (z g); many = λ g. absurd (z g); kind = λ g. absurd (z g); channel = λ g. absurd (z g) }
 
-module _ (st : AllocState) (shape : Shape) (n : List ℕ) where
-  pub owns : (a b c d e f g : ℕ) → Owned a st shape n 0 → Owned b st shape n 1 → Owned c st shape n 2 → Owned d st shape n 3 → Owned e st shape n 4 → Owned f st shape n 5 → Owned g st shape n 6
-      → Owns (a ∷ b ∷ c ∷ d ∷ e ∷ f ∷ g ∷ []) st shape n
-  owns a b c d e f g oa ob oc od oe of og = record {
-    size = refl;
-    at = λ k l. each-of-eight (λ k. k < 7 → Owned (getD (a ∷ b ∷ c ∷ d ∷ e ∷ f ∷ g ∷ []) k 0) st shape n k)
-        (λ l. oa) (λ l. ob) (λ l. oc) (λ l. od) (λ l. oe) (λ l. of) (λ l. og) (λ l. absurd (let z : ⊥ = omega arith in z)) k (omega arith) l;
-  }
+pub owns : (st : AllocState) (shape : Shape) (n : List ℕ) (a b c d e f g : ℕ)
+    → Owned a st shape n 0 → Owned b st shape n 1 → Owned c st shape n 2 → Owned d st shape n 3 → Owned e st shape n 4 → Owned f st shape n 5 → Owned g st shape n 6 → Owns (a ∷ b ∷ c ∷ d ∷ e ∷ f ∷ g ∷ []) st shape n
+owns st shape n a b c d e f g oa ob oc od oe of og = record {
+  size = refl;
+  at = λ k l. each-of-eight (λ k. k < 7 → Owned (getD (a ∷ b ∷ c ∷ d ∷ e ∷ f ∷ g ∷ []) k 0) st shape n k)
+      (λ l. oa) (λ l. ob) (λ l. oc) (λ l. od) (λ l. oe) (λ l. of) (λ l. og) (λ l. absurd (let z : ⊥ = omega arith in z)) k (omega arith) l;
+}
 
-  many-small : (slot : ℕ) (t : Bool) → ltb slot 6 ≡ t → (cond t (min (getD n slot 0) 8) 0 ≤ 8) × (0 < cond t (min (getD n slot 0) 8) 0 → slot < 6)
-  many-small slot true e = (omega arith, λ h. ltb-true slot 6 e)
-  many-small slot false e = (omega arith, λ h. omega arith)
-
-  owned-within : (own slot : ℕ) → Owned own st shape n slot → Within own slot
-  unfolding byteOf
-  owned-within own slot o = go (requestedOf shape slot) refl
-    where
-      go : (t : Bool) → requestedOf shape slot ≡ t → Within own slot
-      go true e = let m = many-small slot (ltb slot 6) refl in record { ends = o .ends; many = rw (o .many e) (m .0); none = rw (o .many e) (m .1) }
-      go false e = let z = o .none e in record { ends = o .ends; many = omega arith; none = λ h. absurd (omega arith) }
-
-  pub owns-words : (own : List ℕ) → Owns own st shape n → Words own
-  owns-words own o = record { size = o .size; at = λ k l. owned-within (getD own k 0) k (o .at k l) }
+-- a slot with segments is not that of the LFE channel
+pub not-lfe : (slot own m : ℕ) → m ≡ manyBy slot own → (m ≡ 0 → ⊥) → slot < 6
+not-lfe slot own m e h = by-cases (decLt slot 6) (λ l. l) (λ l. absurd (h (let z = le-ltb slot 6 (omega arith) in e ∙ rw z)))
 
 -- the five words say what they are made of
 module _ (own common : ℕ) (offset len ba : List ℕ) (slot : ℕ) where
-  pub says-none : own % 256 ≡ 0 → Says (record { own = own; common = common; offset = 0; len = 0; ba = 0 }) own common (deltasOf own offset len ba slot)
-  unfolding byteOf deltasOf
-  says-none h = record { own = refl; common = refl; segments = record { many = refl; rest = λ q. absurd (q h) } }
+  pub says-none : (m : ℕ) → m ≡ manyBy slot own → m ≡ 0 → Says slot (record { own = own; common = common; offset = 0; len = 0; ba = 0 }) own common (deltasOf own offset len ba slot)
+  unfolding deltasOf
+  says-none m e h = record { own = refl; common = refl; segments = record { many = refl; rest = λ q. absurd (q (sym e ∙ h)) } }
 
   pub says-all : (x y z : ℕ) (xs ys zs : List ℕ) → xs ≡ eightOf offset (8 * slot) → ys ≡ eightOf len (8 * slot) → zs ≡ eightOf ba (8 * slot) → Packs xs x → Packs ys y → Packs zs z
-      → Says (record { own = own; common = common; offset = x; len = y; ba = z }) own common (deltasOf own offset len ba slot)
+      → Says slot (record { own = own; common = common; offset = x; len = y; ba = z }) own common (deltasOf own offset len ba slot)
   unfolding deltasOf
   says-all x y z xs ys zs ex ey ez px py pz = record {
     own = refl;
@@ -382,11 +372,11 @@ module _ (memo exps exps′ baps : List ℕ) (slot : ℕ) (so : Memo memo exps b
 
 -- the pointers of a slot are computed, and noted, as the code does it: they go into the part that it lends, and it has their shares
 module _ (slot : ℕ) (h : slot < 7) (s : Source) (c : Channel) (ec : c ≡ channelBy (s .own)) (kind : Pointers) (ek : kind ≡ kindBy (s .own)) (l : Leak) (el : l ≡ leakBy slot (s .common))
-    (d : Deltas) (ed : d ≡ deltasBy s) (p : Params) (ep : p ≡ paramsBy (s .common)) (within : Within (s .own) slot) where
+    (d : Deltas) (ed : d ≡ deltasBy slot s) (p : Params) (ep : p ≡ paramsBy (s .common)) where
   pub channelled : CodedBy (s .common) → Channelled c l d
   channelled coded =
       let k = codes-leak (byteOf (s .common) 6) (byteOf (s .common) 7) (coded .fast) (coded .slow) in
-      rw (ec, el, ed) (record { within = within .ends; fgain = fastgain-high _; fast = leak-low (eqb slot 5) _ _ (k .0) (k .1) .0; slow = leak-low (eqb slot 5) _ _ (k .0) (k .1) .1; segs = within .many })
+      rw (ec, el, ed) (record { within = omega arith; fgain = fastgain-high _; fast = leak-low (eqb slot 5) _ _ (k .0) (k .1) .0; slow = leak-low (eqb slot 5) _ _ (k .0) (k .1) .1; segs = few (ltb slot 6) (byteOf (s .own) 0) })
 
   module _ (old new exps baps ps shares : List ℕ) (t : ℕ) (so : Memo old exps baps)
       (ps-are : ps ≡ allocation kind (take (256 * slot + 256 - 256 * slot) (drop (256 * slot) exps)) c p l d)
@@ -419,7 +409,7 @@ module _ (slot : ℕ) (h : slot < 7) (s : Source) (c : Channel) (ec : c ≡ chan
     tallied : t ≡ packed (tallyOf lent slot (startBy (s .own)) (endBy (s .own) - startBy (s .own)))
     tallied =
         t-is ∙ ap (λ x. sharesOf shares x (c .start) (c .end - c .start)) are
-        ∙ total-is lent slot (λ k. getD shares (getD computed k 0) 0) share (c .start) (c .end) (let z : c .end ≤ 253 = rw ec (within .ends) in omega arith)
+        ∙ total-is lent slot (λ k. getD shares (getD computed k 0) 0) share (c .start) (c .end) (let z : c .end ≤ 253 = rw ec (omega arith) in omega arith)
         ∙ ap (λ x. packed (tallyOf lent slot (x .start) (x .end - x .start))) ec
 
     own-word : getD new (6 * slot) 0 ≡ s .own
@@ -456,11 +446,11 @@ module _ (slot : ℕ) (h : slot < 7) (s : Source) (c : Channel) (ec : c ≡ chan
     )
 
 -- the pointers of a slot by the words
-module _ (common : ℕ) (offset len ba exps baps : List ℕ) (own slot : ℕ) (s : Source) (says : Says s own common (deltasOf own offset len ba slot)) where
+module _ (common : ℕ) (offset len ba exps baps : List ℕ) (own slot : ℕ) (s : Source) (says : Says slot s own common (deltasOf own offset len ba slot)) where
   said : (x : List ℕ) → allocationBy slot s x ≡ allocation (kindBy own) x (channelBy own) (paramsBy common) (leakBy slot common) (deltasOf own offset len ba slot)
   unfolding allocationBy
   said x =
-      allocation-alike (kindBy (s .own)) x (channelBy (s .own)) (paramsBy (s .common)) (leakBy slot (s .common)) (deltasBy s) (deltasOf own offset len ba slot) (says .segments)
+      allocation-alike (kindBy (s .own)) x (channelBy (s .own)) (paramsBy (s .common)) (leakBy slot (s .common)) (deltasBy slot s) (deltasOf own offset len ba slot) (says .segments)
       ∙ rw (says .own, says .common)
 
   pub said-some : 0 < s .own → pointBy common offset len ba exps own baps slot ≡ pointedOf baps slot (allocationBy slot s (expsIn exps slot))
@@ -497,7 +487,7 @@ module _ (common : ℕ) (offset len ba own : List ℕ) where
   pub passes-none : (memo : List ℕ) → Passes common offset len ba own 0 memo
   passes-none memo = record { within = omega arith; there = λ exps baps so. refl }
 
-  pub passes-on : (slot : ℕ) (memo : List ℕ) → Passes common offset len ba own slot memo → slot < 7 → (s : Source) → Says s (getD own slot 0) common (deltasOf (getD own slot 0) offset len ba slot)
+  pub passes-on : (slot : ℕ) (memo : List ℕ) → Passes common offset len ba own slot memo → slot < 7 → (s : Source) → Says slot s (getD own slot 0) common (deltasOf (getD own slot 0) offset len ba slot)
       → (t : Bool) → Kept t memo slot s → t ≡ true → Passes common offset len ba own (slot + 1) memo
   passes-on slot memo so h s says t kept e = record {
     within = omega arith;
@@ -510,14 +500,14 @@ module _ (q : Codes) (st : AllocState) (shape : Shape) (fscod common : ℕ) (n o
   abbrev d : Segments
   d = segmentsBy n offset len ba
 
-  segments-are : (w slot : ℕ) → byteOf w 0 ≡ manyOf n slot → Alike (deltasOf w offset len ba slot) (segmentsOf d slot)
+  segments-are : (w slot : ℕ) → byteOf w 0 ≡ cond (ltb slot 6) (getD n slot 0) 0 → Alike (deltasOf w offset len ba slot) (segmentsOf d slot)
   unfolding segmentsOf deltasOf
   segments-are w slot = go (ltb slot 6)
     where
-      go : (t : Bool) → byteOf w 0 ≡ cond t (min (getD n slot 0) 8) 0 → Alike (deltasOf w offset len ba slot)
+      go : (t : Bool) → byteOf w 0 ≡ cond t (getD n slot 0) 0 → Alike (record { n = cond t (min (byteOf w 0) 8) 0; offset = eightOf offset (8 * slot); len = eightOf len (8 * slot); ba = eightOf ba (8 * slot) })
           (cond t (record { n = min (getD n slot 0) 8; offset = eightOf offset (8 * slot); len = eightOf len (8 * slot); ba = eightOf ba (8 * slot) }) (record { n = 0; offset = replicate 8 0; len = replicate 8 0; ba = replicate 8 0 }))
-      go true e = record { many = e; rest = λ h. deltas-is _ _ _ _ _ _ _ _ e refl refl refl }
-      go false e = record { many = e; rest = λ h. absurd (h e) }
+      go true e = rw e (record { many = refl; rest = λ h. refl })
+      go false e = record { many = refl; rest = λ h. absurd (h refl) }
 
   point-is : (baps : List ℕ) (slot w : ℕ) → Owned w st shape n slot → pointBy common offset len ba exps w baps slot ≡ pointSlot st (paramsFor q fscod) shape d exps baps slot
   unfolding pointBy

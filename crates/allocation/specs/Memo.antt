@@ -42,7 +42,7 @@ abbrev pub startBy : ℕ → ℕ
 startBy own = byteOf own 2 + 256 * byteOf own 3
 
 abbrev pub endBy : ℕ → ℕ
-endBy own = byteOf own 4
+endBy own = min (byteOf own 4) 253
 
 abbrev pub channelBy : ℕ → Channel
 channelBy own = record { start = startBy own; end = endBy own; fgain = getD fastgain (byteOf own 5) 0; csnroffst = byteOf own 6; fsnroffst = byteOf own 7 }
@@ -55,11 +55,14 @@ abbrev pub leakBy : ℕ → ℕ → Leak
 leakBy slot common = cond (eqb slot CPL) (leakOf (byteOf common 6) (byteOf common 7)) Absent
 
 -- and the segments
-abbrev pub deltasBy : Source → Deltas
-deltasBy s = record { n = byteOf (s .own) 0; offset = eightIn (s .offset); len = eightIn (s .len); ba = eightIn (s .ba) }
+abbrev pub manyBy : ℕ → ℕ → ℕ
+manyBy slot own = cond (ltb slot LFE) (min (byteOf own 0) 8) 0
+
+abbrev pub deltasBy : ℕ → Source → Deltas
+deltasBy slot s = record { n = manyBy slot (s .own); offset = eightIn (s .offset); len = eightIn (s .len); ba = eightIn (s .ba) }
 
 unfoldable pub allocationBy : ℕ → Source → List ℕ → List ℕ
-allocationBy slot s exps = allocation (kindBy (s .own)) exps (channelBy (s .own)) (paramsBy (s .common)) (leakBy slot (s .common)) (deltasBy s)
+allocationBy slot s exps = allocation (kindBy (s .own)) exps (channelBy (s .own)) (paramsBy (s .common)) (leakBy slot (s .common)) (deltasBy slot s)
 
 -- codes of three bits, and one of the three sampling rates
 pub record CodedBy (common : ℕ) : Type 0 where
@@ -67,42 +70,27 @@ pub record CodedBy (common : ℕ) : Type 0 where
   pub slow : byteOf common 7 < 8
   pub rate : byteOf common 5 < 3
 
--- how many segments a slot has
-abbrev pub manyOf : List ℕ → ℕ → ℕ
-manyOf n slot = cond (ltb slot LFE) (min (getD n slot 0) 8) 0
-
 -- a slot's own word says this of it, and is 0 where the slot is not asked for
 pub record Owned (own : ℕ) (st : AllocState) (shape : Shape) (n : List ℕ) (slot : ℕ) : Type 0 where
   pub none : requestedOf shape slot ≡ false → own ≡ 0
   pub some : requestedOf shape slot ≡ true → 0 < own
-  pub many : requestedOf shape slot ≡ true → byteOf own 0 ≡ manyOf n slot
+  pub many : requestedOf shape slot ≡ true → byteOf own 0 ≡ cond (ltb slot LFE) (getD n slot 0) 0
   pub kind : requestedOf shape slot ≡ true → kindBy own ≡ kindOf shape slot
   pub channel : requestedOf shape slot ≡ true → channelBy own ≡ silenced (silentOf st shape) (channelOf st shape slot)
-  pub ends : endBy own ≤ 253
 
 pub record Owns (own : List ℕ) (st : AllocState) (shape : Shape) (n : List ℕ) : Type 0 where
   pub size : length own ≡ 7
   pub at : (slot : ℕ) → slot < 7 → Owned (getD own slot 0) st shape n slot
 
--- what allocation asks of the word: bins up to 252, at most eight segments, and none of the LFE channel
-pub record Within (own slot : ℕ) : Type 0 where
-  pub ends : endBy own ≤ 253
-  pub many : byteOf own 0 ≤ 8
-  pub none : 0 < byteOf own 0 → slot < LFE
-
-pub record Words (own : List ℕ) : Type 0 where
-  pub size : length own ≡ 7
-  pub at : (slot : ℕ) → slot < 7 → Within (getD own slot 0) slot
-
 -- as many segments as the word says, of those that are lent
 unfoldable pub deltasOf : ℕ → List ℕ → List ℕ → List ℕ → ℕ → Deltas
-deltasOf own offset len ba slot = record { n = byteOf own 0; offset = eightOf offset (8 * slot); len = eightOf len (8 * slot); ba = eightOf ba (8 * slot) }
+deltasOf own offset len ba slot = record { n = manyBy slot own; offset = eightOf offset (8 * slot); len = eightOf len (8 * slot); ba = eightOf ba (8 * slot) }
 
 -- five words of which the first two are these, and the others say these segments
-pub record Says (s : Source) (w v : ℕ) (d : Deltas) : Type 0 where
+pub record Says (slot : ℕ) (s : Source) (w v : ℕ) (d : Deltas) : Type 0 where
   pub own : s .own ≡ w
   pub common : s .common ≡ v
-  pub segments : Alike (deltasBy s) d
+  pub segments : Alike (deltasBy slot s) d
 
 -- six words for each of seven slots: the arguments, and the tally of the pointers
 abbrev pub sourceAt : List ℕ → ℕ → Source

@@ -21,15 +21,15 @@ ghost use mathlib.Core.Path.{_≡_};
 ghost use mathlib.Core.Bool.{_&&_, _||_, not, cond};
 ghost use mathlib.Core.List.{[], _∷_};
 ghost use Prim.Native.Nat.{_+_, _*_, _-_, _/_, _%_, _<_, _≤_, min};
-ghost use lib.Dec.{eqb};
-ghost use lib.ListN.{length};
+ghost use lib.Dec.{eqb, ltb};
+ghost use lib.ListN.{length, getD};
 ghost use Rattle.alloc.specs.Allocation.{tab};
 ghost use Rattle.alloc.specs.Premises.{Lent};
 ghost use Rattle.mantissas.specs.Tally.{shareOf};
 ghost use Rattle.slots.specs.Held.{Held};
 ghost use Rattle.allocation.specs.State.{freshState, eightOf, silentOf, expsIn, pointedOf, allocated, allocatedOf, segmentsBy};
 ghost use Rattle.allocation.specs.Coded.{Coded};
-ghost use Rattle.allocation.specs.Memo.{Packs, kindBy, channelBy, paramsBy, leakBy, deltasBy, allocationBy, manyOf, Owned, Owns, Within, Words, CodedBy, deltasOf, Says, pointsBy, Passes, Memo};
+ghost use Rattle.allocation.specs.Memo.{Packs, kindBy, channelBy, paramsBy, leakBy, manyBy, deltasBy, allocationBy, Owned, Owns, CodedBy, deltasOf, Says, pointsBy, Passes, Memo};
 
 pub mod memo; // what is kept of the last allocation of each slot
 
@@ -136,13 +136,13 @@ fn silent(st: AllocState, shape: Shape) -> bool
     all
 }
 
-// How many segments a slot has; the LFE channel has none.
-fn many(n: &[u8; 6], slot: u8) -> u8
-    ensures { λ r. ⌜ r ≡ manyOf (now (n .entry)) slot ⌝ }
+// The number of segments that is sent for a slot; none for the LFE channel.
+fn sent(n: &[u8; 6], slot: u8) -> u8
+    ensures { λ r. ⌜ r ≡ cond (ltb slot 6) (getD (now (n .entry)) slot 0) 0 ⌝ }
 {
     if slot < LFE {
         let i = slot as usize;
-        return least(n[i], 8);
+        return n[i];
     }
     0
 }
@@ -184,7 +184,7 @@ fn own_at(st: AllocState, shape: Shape, n: &[u8; 6], silent: bool, slot: u8) -> 
     let i = slot as usize;
     let r = range_at(shape, slot);
     word(
-        many(n, slot),
+        sent(n, slot),
         kind_code(hybrid(shape, slot)),
         low(r.start),
         high(r.start),
@@ -227,6 +227,17 @@ fn common_of(q: Codes, fscod: u8, cplfleak: u8, cplsleak: u8) -> u64
     )
 }
 
+// How many segments a slot has by its own word.
+fn many_in(own: u64, slot: u8) -> u8
+    ensures { λ r. ⌜ r ≡ manyBy slot own ⌝ }
+{
+    if slot < LFE {
+        let b = bytes(own);
+        return least(b[0], 8);
+    }
+    0
+}
+
 // What the pointers of a slot are computed from. Where there are no segments, their words are 0.
 fn source_of(
     own: u64,
@@ -236,10 +247,9 @@ fn source_of(
     ba: &[u8; 48],
     slot: u8,
 ) -> Source
-    requires { ⌜ Within own slot ⌝ }
-    ensures { λ r. ⌜ Says r own common (deltasOf own (now (offset .entry)) (now (len .entry)) (now (ba .entry)) slot) ⌝ }
+    ensures { λ r. ⌜ Says slot r own common (deltasOf own (now (offset .entry)) (now (len .entry)) (now (ba .entry)) slot) ⌝ }
 {
-    if own % 256 == 0 {
+    if many_in(own, slot) == 0 {
         return Source {
             own: own,
             common: common,
@@ -264,7 +274,7 @@ fn channel_in(own: u64) -> Channel
     let b = bytes(own);
     Channel {
         start: index(b[2]) + 256 * index(b[3]),
-        end: index(b[4]),
+        end: index(least(b[4], 253)),
         fgain: tables::fast_gain(b[5]),
         csnroffst: b[6],
         fsnroffst: b[7],
@@ -298,12 +308,11 @@ fn leak_in(common: u64, slot: u8) -> Leak
     Leak::Absent
 }
 
-fn deltas_in(s: Source) -> Deltas
-    ensures { λ r. ⌜ r ≡ deltasBy s ⌝ }
+fn deltas_in(s: Source, slot: u8) -> Deltas
+    ensures { λ r. ⌜ r ≡ deltasBy slot s ⌝ }
 {
-    let b = bytes(s.own);
     Deltas {
-        n: index(b[0]),
+        n: index(many_in(s.own, slot)),
         offset: bytes(s.offset),
         len: bytes(s.len),
         ba: bytes(s.ba),
@@ -327,14 +336,14 @@ fn renew(
 )
     requires { ⌜ (Lent (now latab) (now masktab) (now ends) (now hth) (now points)) × (now shares ≡ tab shareOf 0 256) ⌝ }
     requires { ⌜ (Held (now exps)) × Memo (now memo) (now exps) (now baps) × (slot < 7) ⌝ }
-    requires { ⌜ (p ≡ paramsBy (s .common)) × CodedBy (s .common) × Within (s .own) slot ⌝ }
+    requires { ⌜ (p ≡ paramsBy (s .common)) × CodedBy (s .common) ⌝ }
     ensures { λ r. ⌜ (now (baps .exit) ≡ pointedOf (now (baps .entry)) slot (allocationBy slot s (expsIn (now (exps .entry)) slot)))
         × Memo (now (memo .exit)) (now (exps .entry)) (now (baps .exit)) ⌝ }
 {
     let c = channel_in(s.own);
     let kind = kind_in(s.own);
     let l = leak_in(s.common, slot);
-    let d = deltas_in(s);
+    let d = deltas_in(s, slot);
     let a = 256 * (slot as usize);
     let e = a + 256;
     let tally = alloc::allocate(
@@ -364,7 +373,7 @@ fn first_stale(
     ba: &[u8; 48],
     memo: &[u64; 42],
 ) -> u8
-    requires { ⌜ (length (now memo) ≡ 42) × Words (now own) ⌝ }
+    requires { ⌜ (length (now memo) ≡ 42) × (length (now own) ≡ 7) ⌝ }
     ensures { λ r. ⌜ Passes common (now (offset .entry)) (now (len .entry)) (now (ba .entry)) (now (own .entry)) r (now (memo .entry)) ⌝ }
 {
     let mut slot: u8 = 0;
@@ -391,7 +400,7 @@ fn point_slots(
     memo: &mut [u64; 42],
     first: u8,
 )
-    requires { ⌜ (Held (now exps)) × Memo (now memo) (now exps) (now baps) × Words (now own) × CodedBy common × (first ≤ 7) ⌝ }
+    requires { ⌜ (Held (now exps)) × Memo (now memo) (now exps) (now baps) × (length (now own) ≡ 7) × CodedBy common × (first ≤ 7) ⌝ }
     ensures { λ r. ⌜ (now (baps .exit)
         ≡ pointsBy common (now (offset .entry)) (now (len .entry)) (now (ba .entry)) (now (exps .entry)) (now (own .entry)) (now (baps .entry)) first (7 - first))
         × Memo (now (memo .exit)) (now (exps .entry)) (now (baps .exit)) ⌝ }

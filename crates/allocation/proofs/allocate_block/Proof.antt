@@ -1,7 +1,7 @@
 use native.Mathlib.Omega.{arith}
 use mathlib.Core.Path.{_≡_, refl, sym, ap, _∙_}
 use Rattle.allocation.proofs.StateLaws.{never-sent, sent}
-use Rattle.allocation.proofs.MemoLaws.{common-coded, owns-words, points-are, points-done}
+use Rattle.allocation.proofs.MemoLaws.{common-coded, points-are, points-done}
 use borrow.Author.Needs.{needs}
 use Rattle.allocation.proofs.allocate_block.Statement.{statement}
 use Rattle.allocation.proofs.allocate_block.Tie as tie
@@ -10,7 +10,7 @@ returns : tie.Need-returns
 returns c = (never-sent _ _ _ _ _ _ _ refl (c .enum-told .given .1), c .before .before .pre .2)
 
 first-stale-requires : tie.Need-first-stale-requires
-first-stale-requires c κs = (c .before .before .before .before .before .before .before .pre .2 .tallies .size, owns-words _ _ _ _ (c .before .before .own-words .ensures))
+first-stale-requires c κs = (c .before .before .before .before .before .before .before .pre .2 .tallies .size, c .before .before .own-words .ensures .size)
 
 returns-2 : tie.Need-returns-2
 returns-2 c = (
@@ -20,7 +20,7 @@ returns-2 c = (
 )
 
 point-slots-requires : tie.Need-point-slots-requires
-point-slots-requires c κs = (c .before .before .before .before .before .before .before .before .before .before .before .before .pre .0, c .before .before .before .before .before .before .before .before .before .before .before .before .pre .2, owns-words _ _ _ _ (c .before .before .before .before .before .before .before .own-words .ensures), common-coded _ _ _ _ (c .before .before .before .before .before .before .before .before .common-of .ensures) (c .before .before .before .before .before .before .before .before .before .before .before .before .pre .1), c .before .before .before .before .first-stale .ensures .within)
+point-slots-requires c κs = (c .before .before .before .before .before .before .before .before .before .before .before .before .pre .0, c .before .before .before .before .before .before .before .before .before .before .before .before .pre .2, c .before .before .before .before .before .before .before .own-words .ensures .size, common-coded _ _ _ _ (c .before .before .before .before .before .before .before .before .common-of .ensures) (c .before .before .before .before .before .before .before .before .before .before .before .before .pre .1), c .before .before .before .before .first-stale .ensures .within)
 
 returns-3 : tie.Need-returns-3
 returns-3 c = (

@@ -11,8 +11,8 @@ add-t13 : tie.Need-add-t13
 add-t13 c = omega (arith, c .before .index .ensures .1, c .index2 .ensures .1)
 
 returns : tie.Need-returns
-returns c = rw (c .before .before .before .index .ensures .0, c .before .before .index2 .ensures .0, c .before .index3 .ensures .0, c .fast-gain .ensures, c .before .before .before .before .bytes .ensures)
+returns c = rw (c .before .before .before .before .index .ensures .0, c .before .before .before .index2 .ensures .0, c .before .index3 .ensures .0, c .before .before .least .ensures, c .fast-gain .ensures, c .before .before .before .before .before .bytes .ensures)
 
 pub channel-in-spec : {M : Type 1} → statement M
 channel-in-spec =
-    tie.close (tie.spec (λ c κs. search needs) (λ c. search needs) (λ c κs. search needs) (λ c. search needs) (λ c κs. search needs) mul-t12 add-t13 (λ c. search needs) (λ c κs. search needs) (λ c. search needs) (λ c κs. search needs) (λ c. search needs) (λ c. search needs) returns)
+    tie.close (tie.spec (λ c κs. search needs) (λ c. search needs) (λ c κs. search needs) (λ c. search needs) (λ c κs. search needs) mul-t12 add-t13 (λ c. search needs) (λ c κs. search needs) (λ c κs. search needs) (λ c. search needs) (λ c κs. search needs) (λ c. search needs) (λ c. search needs) returns)

@@ -17,10 +17,7 @@ loop-holds : tie.Need-loop-holds Inv-loop μ-loop
 loop-holds c = passes-none _ _ _ _ _ _
 
 element-copy-out-source-of : tie.Need-element-copy-out-source-of Inv-loop μ-loop
-element-copy-out-source-of c = omega (arith, c .before .before .pre .1 .size, c .loop-test .taken)
-
-source-of-requires : tie.Need-source-of-requires Inv-loop μ-loop
-source-of-requires c κs = c .before .before .before .pre .1 .at _ (c .before .loop-test .taken)
+element-copy-out-source-of c = omega (arith, c .before .before .pre .1, c .loop-test .taken)
 
 kept-requires : tie.Need-kept-requires Inv-loop μ-loop
 kept-requires c κs = (c .before .before .before .before .pre .0, c .before .before .loop-test .taken)
@@ -42,4 +39,4 @@ returns-2 c = c .before .loop .inv
 
 pub first-stale-spec : {M : Type 1} → statement M
 first-stale-spec =
-    tie.close (tie.spec Inv-loop μ-loop loop-holds (λ c. search needs) (λ c. search needs) element-copy-out-source-of source-of-requires kept-requires returns add-slot loop-less loop-again returns-2)
+    tie.close (tie.spec Inv-loop μ-loop loop-holds (λ c. search needs) (λ c. search needs) element-copy-out-source-of (λ c κs. search needs) kept-requires returns add-slot loop-less loop-again returns-2)

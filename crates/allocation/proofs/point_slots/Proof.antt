@@ -20,10 +20,7 @@ loop-holds : tie.Need-loop-holds Inv-loop μ-loop
 loop-holds c = (c .before .before .before .before .before .before .before .pre .4, refl, c .before .before .before .before .before .before .before .pre .1)
 
 element-copy-out-source-of : tie.Need-element-copy-out-source-of Inv-loop μ-loop
-element-copy-out-source-of c = omega (arith, c .before .before .before .before .before .before .before .before .before .pre .2 .size, c .loop-test .taken)
-
-source-of-requires : tie.Need-source-of-requires Inv-loop μ-loop
-source-of-requires c κs = c .before .before .before .before .before .before .before .before .before .before .pre .2 .at _ (c .before .loop-test .taken)
+element-copy-out-source-of c = omega (arith, c .before .before .before .before .before .before .before .before .before .pre .2, c .loop-test .taken)
 
 kept-requires : tie.Need-kept-requires Inv-loop μ-loop
 kept-requires c κs = (c .before .before .before .before .loop .inv .2 .tallies .size, c .before .before .before .loop-test .taken)
@@ -32,7 +29,7 @@ renew-requires : tie.Need-renew-requires Inv-loop μ-loop
 renew-requires c κs =
     let s = c .before .before .before .before .before .before .before .before .before .before .before .before .source-of .ensures in (
       (record { log = c .before .before .before .before .before .before .before .before .before .before .before .before .before .before .before .before .before .before .before .before .before .before .log-add .ensures; bins = c .before .before .before .before .before .before .before .before .before .before .before .before .before .before .before .before .before .before .before .before .before .masktab .ensures; ends = c .before .before .before .before .before .before .before .before .before .before .before .before .before .before .before .before .before .before .before .before .band-end .ensures; heard = c .before .before .before .before .before .before .before .before .before .before .before .before .before .before .before .before .before .before .before .hearing .ensures; points = c .before .before .before .before .before .before .before .before .before .before .before .before .before .before .before .before .before .before .pointers .ensures }, c .before .before .before .before .before .before .before .before .before .before .before .before .before .before .before .before .before .shares .ensures),
-      ((c .before .before .before .before .before .before .before .before .before .before .before .before .before .before .before .before .before .before .before .before .before .before .before .pre .0, c .before .before .before .before .before .before .before .before .before .before .before .before .before .before .before .loop .inv .2, c .before .before .before .before .before .before .before .before .before .before .before .before .before .before .loop-test .taken), (rw (s .common) (c .before .before .before .before .before .before .before .before .before .before .before .before .before .before .before .before .params-in .ensures), rw (s .common) (c .before .before .before .before .before .before .before .before .before .before .before .before .before .before .before .before .before .before .before .before .before .before .before .pre .3), rw (s .own) (c .before .before .before .before .before .before .before .before .before .before .before .before .before .before .before .before .before .before .before .before .before .before .before .pre .2 .at _ (c .before .before .before .before .before .before .before .before .before .before .before .before .before .before .loop-test .taken)))),
+      ((c .before .before .before .before .before .before .before .before .before .before .before .before .before .before .before .before .before .before .before .before .before .before .before .pre .0, c .before .before .before .before .before .before .before .before .before .before .before .before .before .before .before .loop .inv .2, c .before .before .before .before .before .before .before .before .before .before .before .before .before .before .loop-test .taken), (rw (s .common) (c .before .before .before .before .before .before .before .before .before .before .before .before .before .before .before .before .params-in .ensures), rw (s .common) (c .before .before .before .before .before .before .before .before .before .before .before .before .before .before .before .before .before .before .before .before .before .before .before .pre .3))),
     )
 
 add-slot : tie.Need-add-slot Inv-loop μ-loop
@@ -57,4 +54,4 @@ returns c = (sym (c .before .loop .inv .1 ∙ points-done _ _ _ _ _ _ _ _ (c .lo
 
 pub point-slots-spec : {M : Type 1} → statement M
 point-slots-spec =
-    tie.close (tie.spec Inv-loop μ-loop (λ c κs. search needs) (λ c κs. search needs) (λ c κs. search needs) (λ c κs. search needs) (λ c κs. search needs) (λ c κs. search needs) (λ c κs. search needs) loop-holds (λ c. search needs) (λ c. search needs) element-copy-out-source-of source-of-requires kept-requires renew-requires add-slot loop-less loop-again returns)
+    tie.close (tie.spec Inv-loop μ-loop (λ c κs. search needs) (λ c κs. search needs) (λ c κs. search needs) (λ c κs. search needs) (λ c κs. search needs) (λ c κs. search needs) (λ c κs. search needs) loop-holds (λ c. search needs) (λ c. search needs) element-copy-out-source-of (λ c κs. search needs) kept-requires renew-requires add-slot loop-less loop-again returns)

@@ -17,7 +17,7 @@ part-allocate-end-2 c = omega (arith, c .before .before .before .before .before 
 allocate-requires : tie.Need-allocate-requires
 allocate-requires c κs =
     let pre = c .before .before .before .before .before .before .before .before .pre in
-    let k = channelled _ (pre .1 .0 .2) _ _ (c .before .before .before .before .before .channel-in .ensures) _ (c .before .before .before .before .kind-in .ensures) _ (c .before .before .before .leak-in .ensures) _ (c .before .before .deltas-in .ensures) _ (pre .1 .1 .0) (pre .1 .1 .2) (pre .1 .1 .1) in
+    let k = channelled _ (pre .1 .0 .2) _ _ (c .before .before .before .before .before .channel-in .ensures) _ (c .before .before .before .before .kind-in .ensures) _ (c .before .before .before .leak-in .ensures) _ (c .before .before .deltas-in .ensures) _ (pre .1 .1 .0) (pre .1 .1 .1) in
     (pre .0 .0, ((exps-part _ _ (pre .1 .0 .0) (pre .1 .0 .2) _ _ (k .within), part-sized _ _ (pre .1 .0 .1 .tallies .sized) (pre .1 .0 .2)), ((k, rw (pre .1 .1 .0) (codes-tuned _ _ _ _ _ _ (pre .1 .1 .1 .rate))), rw (pre .0 .1) shares-small)))
 
 note-requires : tie.Need-note-requires
@@ -26,7 +26,7 @@ note-requires c κs = (c .before .before .before .before .before .before .before
 returns : tie.Need-returns
 returns c =
     let pre = c .before .before .before .before .before .before .before .before .before .before .before .before .before .pre in
-    renewed _ (pre .1 .0 .2) _ _ (c .before .before .before .before .before .before .before .before .before .before .channel-in .ensures) _ (c .before .before .before .before .before .before .before .before .before .kind-in .ensures) _ (c .before .before .before .before .before .before .before .before .leak-in .ensures) _ (c .before .before .before .before .before .before .before .deltas-in .ensures) _ (pre .1 .1 .0) (pre .1 .1 .2) _ _ _ _ _ _ _ (pre .1 .0 .1) (c .before .before .before .before .allocate .ensures .0) (c .before .before .before .before .allocate .ensures .1) (pre .0 .1) (c .note .ensures)
+    renewed _ (pre .1 .0 .2) _ _ (c .before .before .before .before .before .before .before .before .before .before .channel-in .ensures) _ (c .before .before .before .before .before .before .before .before .before .kind-in .ensures) _ (c .before .before .before .before .before .before .before .before .leak-in .ensures) _ (c .before .before .before .before .before .before .before .deltas-in .ensures) _ (pre .1 .1 .0) _ _ _ _ _ _ _ (pre .1 .0 .1) (c .before .before .before .before .allocate .ensures .0) (c .before .before .before .before .allocate .ensures .1) (pre .0 .1) (c .note .ensures)
 
 pub renew-spec : {M : Type 1} → statement M
 renew-spec =
