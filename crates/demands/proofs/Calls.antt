@@ -40,7 +40,7 @@ module _ {s : List ℕ} (c : Call s) where
   abbrev pub outcome : Outcome State
   outcome = cut (size (c .lent)) (parse eac3 s)
 
-  is : c .answer ≡ answerBy (outcome .result) (outcome .place) (0 + length (outcome .records))
+  pub is : c .answer ≡ answerBy (outcome .result) (outcome .place) (0 + length (outcome .records))
   unfolding answerOf
   is = c .called .answer
 

@@ -1,18 +1,25 @@
 -- The common-reading theorem, of the reader. Assumes nothing.
-use mathlib.Core.Path.{_≡_, refl, ap, sym, _∙_}
+use mathlib.Core.Path.{_≡_, refl, ap, sym, subst, _∙_}
+use mathlib.Core.Bool.{true}
 use mathlib.Core.List.{List, [], _∷_, map}
 use mathlib.Core.Logic.{_⊎_, inl, inr}
 use mathlib.Core.Option.{some}
 use Prim.Native.Nat.{ℕ, zero, suc, _≤_, _<_}
 use native.Mathlib.Omega.{arith}
 use lib.ListN.{length, getElem?, length-map}
+use Rattle.bits.specs.Bits.{SameBits}
 use Rattle.reading.specs.Run.{Field, Entry, end, Outcome}
-use Rattle.reading.specs.Room.{size}
-use Rattle.reading.specs.CommonReading.{Case, Stand, Excepted, list}
+use Rattle.reading.specs.Room.{size, cutAt, cut}
+use Rattle.reading.specs.Records.{All}
+use Rattle.reading.specs.Frame.{parse}
+use Rattle.reading.specs.CommonReading.{Case, Stand, Excepted, SameSpans, list}
+use Rattle.rows.specs.Syntax.{among}
 use Rattle.annex.specs.Frame.{announcedBy, eac3}
 use Rattle.annex.proofs.Header.{eac3-common-reading}
+use Rattle.facts.specs.Outcomes.{spanNames, Named}
+use Rattle.facts.proofs.Outcomes.{all-keep}
 use Rattle.demands.specs.Calls.{Call, count, nth, Accepts, Refuses}
-use Rattle.demands.specs.Common.{Pair, Stands, CommonReading}
+use Rattle.demands.specs.Common.{Pair, Stands, SameSpanBits, CommonReading}
 use Rattle.demands.proofs.Calls.{outcome, accepts, refuses, counts, holds, held}
 
 stands : (x : List ℕ) (d : ℕ) {y z : List ℕ} (f : Call y) (g : Call z) → Stand eac3 x d (list (outcome f)) (list (outcome g)) → Stands x d f g
@@ -32,6 +39,28 @@ same-at (x ∷ a) (y ∷ b) h k =
     let e : x ≡ y = cc in
     rw e (ap (λ r. y ∷ r) (same-at a b (omega arith) (λ i f q. k (suc i) f q)))
 
+-- the bits of the spans of the definition's list, from those of the names
+cut-named : {A : Type 0} (n : ℕ) (o : Outcome A) → All Named (o .records) → All Named (cut n o .records)
+unfolding cut
+cut-named {A} n o h = go n (o .records) h
+  where
+    go : (n : ℕ) (es : List Entry) → All Named es → All Named (cutAt n (o .result) (o .place) es .records)
+    go n [] h = tt
+    go zero (e ∷ es) h = tt
+    go (suc n) (e ∷ es) h = (h .0, go n es (h .1))
+
+all-at : (P Q : Entry → Type 0) (es : List Entry) → All P es
+    → ((i : ℕ) (e : Entry) → getElem? (map (λ (e : Entry). e .field) es) i ≡ some (e .field) → P e → Q e) → All Q es
+all-at P Q [] h k = tt
+all-at P Q (e ∷ es) h k = (k 0 e refl (h .0), all-at P Q es (h .1) (λ i f q. k (suc i) f q))
+
+spans-same : (x y : List ℕ) (f : Call x) → SameSpanBits x y f → SameSpans x y (outcome f)
+spans-same x y f s =
+    all-at Named (λ e. e .spans ≡ true → SameBits x y (e .field .first) (end (e .field))) (outcome f .records) (cut-named (size (f .lent)) (parse eac3 x) (all-keep x .spans))
+    (λ i e q n p.
+    let h = held f i (e .field) q in
+    subst (λ (g : Field). SameBits x y (g .first) (end g)) (h .1) (s i (h .0) (subst (λ (g : Field). among spanNames (g .name) ≡ true) (sym (h .1)) (n p))))
+
 pub common-reading : CommonReading
 unfolding eac3
 common-reading = record {
@@ -48,7 +77,7 @@ common-reading = record {
   same = λ x y f g bx by hx hy a b n r s.
       let u = accepts f a in
       let v = accepts g b in
-      eac3-common-reading .same x y (size (f .lent)) (size (g .lent)) (u .0) (v .0) bx by hx hy (u .1) (v .1) (lists x y f g n r) s;
+      eac3-common-reading .same x y (size (f .lent)) (size (g .lent)) (u .0) (v .0) bx by hx hy (u .1) (v .1) (lists x y f g n r) (spans-same x y f s);
 }
   where
     case : (x y : List ℕ) (d : ℕ) (f : Call x) → Pair x y d → Accepts f → Case eac3 x y d (size (f .lent))

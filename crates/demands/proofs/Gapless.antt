@@ -70,7 +70,7 @@ module _ {H A : Type 0} (F : Format H A) where
   unfolding sized
   sized-tiled b h p = cond-tiled (leb (F .bytes h) (length b)) p 4 (framed F b h p) (framed-tiled b h p)
 
-  parse-tiled : (b : List ℕ) → Tiled 0 (parse F b)
+  pub parse-tiled : (b : List ℕ) → Tiled 0 (parse F b)
   unfolding parse
   parse-tiled b = cond-tiled (leb 6 (length b)) 0 1 _ (tiled-after (run (F .header) b 0 48) _ (sized-tiled b) (tiled (F .header) b 0 48))
 

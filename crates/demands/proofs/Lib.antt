@@ -1,5 +1,6 @@
 pub mod Rooms
 pub mod Calls
 pub mod Gapless
+pub mod Answers
 pub mod Common
 pub mod Suffices

@@ -1,5 +1,6 @@
 -- A call with room for 32,782 records is never refused by 33. Assumes nothing.
 use mathlib.Core.Path.{_≡_, ap, sym, subst, _∙_}
+use mathlib.Core.Bool.{true}
 use mathlib.Core.List.{List}
 use Prim.Native.Nat.{ℕ, _+_, _≤_}
 use native.Mathlib.Omega.{arith}
@@ -7,11 +8,12 @@ use lib.ListN.{length}
 use Rattle.reading.specs.Run.{Result, accepted, refused, Outcome}
 use Rattle.reading.specs.Frame.{parse}
 use Rattle.reading.specs.Room.{Room, size, into}
+use Rattle.rows.specs.Syntax.{among}
 use Rattle.cells.specs.Cells.{State}
 use Rattle.annex.specs.Frame.{eac3}
-use Rattle.facts.specs.Numbers.{Numbered}
+use Rattle.facts.specs.Outcomes.{refusals, Numbered}
 use Rattle.facts.specs.Suffices.{enough}
-use Rattle.facts.proofs.Room.{enough-room}
+use Rattle.facts.proofs.Room.{not-33, enough-room}
 use Rattle.eac3.specs.Answer.{answered, answerBy, answerOf, Called, numberOf}
 use Rattle.eac3.specs.declared.answer.Answer.{Answer}
 use Rattle.demands.specs.Suffices.{NeverFull}
@@ -23,7 +25,7 @@ answers s m h =
   where
     go : (r : Result State) → Numbered r → ¬ (numberOf (answerBy r (parse eac3 s .place) (0 + length (parse eac3 s .records))) ≡ 33)
     go (accepted st) k e = omega arith
-    go (refused n) k e = omega arith
+    go (refused n) k e = not-33 (subst (λ i. among refusals i ≡ true) e k)
 
 pub never-full : NeverFull
 never-full s m a m′ k h = subst (λ (x : Answer). ¬ (numberOf x ≡ 33)) (sym (k .answer)) (answers s m h)

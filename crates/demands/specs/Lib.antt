@@ -1,4 +1,5 @@
 pub mod Calls
+pub mod Answers
 pub mod Gapless
 pub mod Common
 pub mod Suffices

@@ -29,7 +29,7 @@ use Rattle.facts.proofs.Bounds.{most-word}
 use Rattle.facts.proofs.Cells.{cell-zero}
 
 -- where a run is accepted it does not pass its limit, and stays where it begins past it; inside a span it never does
-skim-reaches : {A : Type 0} (s : Skim A) (b : List ℕ) (p l : ℕ) → skim s b p l .place ≤ max p l
+pub skim-reaches : {A : Type 0} (s : Skim A) (b : List ℕ) (p l : ℕ) → skim s b p l .place ≤ max p l
 unfolding skim
 skim-reaches (stop a) b p l = omega arith
 skim-reaches (fail n) b p l = omega arith

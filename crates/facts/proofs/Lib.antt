@@ -5,7 +5,7 @@ pub mod Derived
 pub mod Fits
 pub mod Bounded
 pub mod Counts
-pub mod Numbers
+pub mod Outcomes
 pub mod Room
 pub mod Leaves
 pub mod Exponents

@@ -1,7 +1,7 @@
 -- 32,782 records always suffice. A frame has at most 32,768 bits. Of its records 16 may have width 0, as its syntax counts them,
 -- and syncword has 15 bits more than one. Assumes nothing.
 use mathlib.Core.Path.{_≡_, refl, ap, sym, _∙_, subst}
-use mathlib.Core.Bool.{true}
+use mathlib.Core.Bool.{true, true≢false}
 use mathlib.Core.List.{List, [], _∷_}
 use Prim.Native.Nat.{ℕ, zero, suc, _+_, _-_, _*_, _≤_}
 use native.Mathlib.Omega.{arith}
@@ -17,18 +17,18 @@ use Rattle.reading.proofs.Runs.{after-cons}
 use Rattle.names.specs.Names.{syncword}
 use Rattle.cells.specs.Cells.{State, cellOf, stored, partOf}
 use Rattle.cells.specs.Names.{FRMSIZ, SYNCWORD}
-use Rattle.rows.specs.Syntax.{Block, end, _⨾_, item, meaning, none}
+use Rattle.rows.specs.Syntax.{Block, end, _⨾_, among, item, meaning, none}
 use Rattle.annex.specs.Syncinfo.{syncinfo}
 use Rattle.annex.specs.Annex.{header, body}
 use Rattle.annex.specs.Frame.{start, tailNames, bytesOf, eac3}
 use Rattle.facts.specs.Along.{Along}
 use Rattle.facts.specs.Bounds.{bounds, mostIn, most, Bounded}
 use Rattle.facts.specs.Counts.{Few, zeros}
-use Rattle.facts.specs.Numbers.{Numbered, rejects}
+use Rattle.facts.specs.Outcomes.{refusals, Numbered}
 use Rattle.facts.specs.Suffices.{enough, Suffices}
 use Rattle.facts.proofs.Bounded.{pages, header-along, header-within, body-bounded}
 use Rattle.facts.proofs.Counts.{run-reaches, few-none, few-after, few-read, few-span, few-done, few-refuse, few-ahead, few-here, few-block}
-use Rattle.facts.proofs.Numbers.{numbered-after, numbered-run, refuses-block, refuses-tail}
+use Rattle.facts.proofs.Outcomes.{all-keep}
 
 -- the tail makes one record that may have width 0: auxbits
 module _ {A : Type 0} (N : TailNames) (b : List ℕ) (l : ℕ) where
@@ -55,18 +55,10 @@ module _ {A : Type 0} (N : TailNames) (b : List ℕ) (l : ℕ) where
       G : Tree A → Type 0
       G t = Few l p 1 (run t b p l)
 
--- what the syntax of Annex E can make, and refuse
+-- what the syntax of Annex E can make
 zeros-body : zeros body ≡ 15
 unfolding zeros most mostIn bounds pages
 zeros-body = refl
-
-rejects-body : rejects body ≡ true
-unfolding rejects pages
-rejects-body = refl
-
-rejects-header : rejects header ≡ true
-unfolding rejects header syncinfo
-rejects-header = refl
 
 -- a frame after its header
 module _ (s : List ℕ) where
@@ -79,15 +71,6 @@ module _ (s : List ℕ) where
       (rw zeros-body at (few-block s l body h p es k))
       (λ a e. few-tail tailNames s l _ a _))
       (λ _. few-none (refused 4) l p p 16 (omega arith))
-
-  numbered-sized : (h : State) (p : ℕ) → Numbered (sized eac3 s h p .result)
-  unfolding sized framed finish eac3
-  numbered-sized h p =
-      let l = 8 * bytesOf h in
-      test (λ o. Numbered (o .result)) (leb (bytesOf h) (length s))
-      (λ _. numbered-after (run (meaning body h) s p l) (finish tailNames s l) (numbered-run (meaning body h) (refuses-block body rejects-body h) s p l)
-      (λ a q. numbered-run (tail tailNames (bitsAt s (l - 18) 1) l a) (refuses-tail State tailNames (bitsAt s (l - 18) 1) l a) s q l))
-      (λ _. omega arith)
 
 -- the header after its first element, syncword, which has 16 bits
 behind : Block → Block
@@ -146,13 +129,6 @@ module _ (s : List ℕ) where
       (λ _. rw header-is (rw (← (after-cons sync rested (sized eac3 s) (after rested (sized eac3 s)) refl)) (omega (arith, few-outcome))))
       (λ _. omega arith)
 
-  parse-numbered : Numbered (parse eac3 s .result)
-  unfolding parse eac3
-  parse-numbered =
-      test (λ o. Numbered (o .result)) (leb 6 (length s))
-      (λ _. numbered-after (run (meaning header start) s 0 48) (sized eac3 s) (numbered-run (meaning header start) (refuses-block header rejects-header start) s 0 48) (numbered-sized s))
-      (λ _. omega arith)
-
 -- where there is room for all records nothing is cut
 pub cut-none : {A : Type 0} (n : ℕ) (o : Outcome A) → length (o .records) ≤ n → cut n o ≡ o
 unfolding cut
@@ -163,8 +139,13 @@ cut-none n o h = go n (o .records) h
     go zero (e ∷ es) h = absurd (let z : ⊥ = omega arith in z)
     go (suc n) (e ∷ es) h = ap (cons e) (go n es (omega arith))
 
+-- 33 is none of the definition's numbers
+pub not-33 : ¬ (among refusals 33 ≡ true)
+unfolding among refusals
+not-33 e = true≢false (sym e)
+
 pub enough-room : (s : List ℕ) → Suffices s
-enough-room s = record { records = at-most s; numbered = parse-numbered s; whole = whole; never = never }
+enough-room s = record { records = at-most s; numbered = all-keep s .numbered; whole = whole; never = never }
   where
     whole : (n : ℕ) → enough ≤ n → cut n (parse eac3 s) ≡ parse eac3 s
     whole n h = cut-none n (parse eac3 s) (omega (arith, at-most s))
@@ -172,5 +153,4 @@ enough-room s = record { records = at-most s; numbered = parse-numbered s; whole
     never : (m : Room) → enough ≤ size m → ¬ (into 0 m (cut (size m) (parse eac3 s)) .result ≡ refused 33)
     never m h e =
         let g : parse eac3 s .result ≡ refused 33 = ap (λ (o : Outcome State). o .result) (sym (whole (size m) h)) ∙ e in
-        let z : 33 ≤ 32 = subst Numbered g (parse-numbered s) in
-        omega arith
+        not-33 (subst Numbered g (all-keep s .numbered))

@@ -1,6 +1,6 @@
 pub mod Along
 pub mod Bounds
 pub mod Counts
-pub mod Numbers
+pub mod Outcomes
 pub mod Suffices
 pub mod Unmet

@@ -1,4 +1,4 @@
--- 32,782 records always suffice, and no frame is refused with a number above 32. Proved in proofs/Room.antt.
+-- 32,782 records always suffice. Proved in proofs/Room.antt.
 use mathlib.Core.Path.{_≡_}
 use mathlib.Core.List.{List}
 use Prim.Native.Nat.{ℕ, _≤_}
@@ -7,13 +7,13 @@ use Rattle.reading.specs.Run.{refused}
 use Rattle.reading.specs.Frame.{parse}
 use Rattle.reading.specs.Room.{Room, size, cut, into}
 use Rattle.annex.specs.Frame.{eac3}
-use Rattle.facts.specs.Numbers.{Numbered}
+use Rattle.facts.specs.Outcomes.{Numbered}
 
 abbrev pub enough : ℕ
 enough = 32782
 
 pub record Suffices (s : List ℕ) : Type 0 where
-  -- the definition makes no more records, and refuses with the numbers 1 to 32 alone
+  -- the definition makes no more records, and never refuses with 33
   pub records : length (parse eac3 s .records) ≤ enough
   pub numbered : Numbered (parse eac3 s .result)
   -- so with room for them the answer is the definition's own, and never 33
