@@ -59,7 +59,7 @@ spans-same x y f s =
     all-at Named (λ e. e .spans ≡ true → SameBits x y (e .field .first) (end (e .field))) (outcome f .records) (cut-named (size (f .lent)) (parse eac3 x) (all-keep x .spans))
     (λ i e q n p.
     let h = held f i (e .field) q in
-    subst (λ (g : Field). SameBits x y (g .first) (end g)) (h .1) (s i (h .0) (subst (λ (g : Field). among spanNames (g .name) ≡ true) (sym (h .1)) (n p))))
+    subst (λ (g : Field). SameBits x y (g .first) (end g)) (h .1) (s i (let z = h .0 in omega arith) (subst (λ (g : Field). among spanNames (g .name) ≡ true) (sym (h .1)) (n p))))
 
 pub common-reading : CommonReading
 unfolding eac3

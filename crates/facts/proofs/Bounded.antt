@@ -48,7 +48,7 @@ module _ (s : List ℕ) (l : ℕ) where
   bounded-by : (b : Block) → fitting every everything b ≡ true → (st : State) (p : ℕ) (es : List Entry) → Within (st .cells) → Walks s l Bounded b st p es (λ a q fs. Within (a .cells))
   unfolding fitting
   bounded-by b h st p es w =
-      walks-map s l Bounded (λ a q fs r. r .changed .within) (fits-block every s l Bounded (λ i fs x _ k. k) everything b [] h st p es w tt)
+      walks-map s l Bounded (λ a q fs r. r .changed .within) (fits-block every s l Bounded (λ i x q fs _ k. k) everything b [] h st p es w tt)
 
 start-within : Within (start .cells)
 unfolding start

@@ -11,12 +11,13 @@ use Rattle.cells.specs.Cells.{State, cellOf, putIn, stored, placeOf, heldOf}
 use Rattle.cells.specs.Names.{BLK, CH, CPLEND, CPLINU, CPLSTRT, ENDMANT, HELDEND, HELDSTRT, LFEON, NFCHANS, SNROFFSTSTR}
 use Rattle.rows.specs.Syntax.{Cond, Block, _⨾_, reject, cell, at, holdsOf}
 use Rattle.annex.specs.Audblk.{exponents-of-block}
+use Rattle.facts.specs.Along.{Point}
 use Rattle.facts.specs.Bounds.{bounds, mostIn, most, Within}
 use Rattle.facts.specs.Unmet.{Channels, Coupling, Lfe, Unmet}
 use Rattle.facts.proofs.Cells.{cell-zero, cell-at}
 use Rattle.facts.proofs.Bounds.{word, may, Changed, changed-none, changed-then, puts}
 use Rattle.facts.proofs.Leaves.{Ranges, leaves, leavesUnsent, passes, leaves-same, unsent-same, unsent-leaves, unsent-fewer, firstItems, afterItems, inner, place-at, held-cell, is-false, differs-false, by-bounds, parts, skip, put-by, copy-by, number-by, either}
-use Rattle.facts.proofs.Walking.{Point, Grows, grows-refl, grows-trans, Walks, walks-next, walks-end, walks-map, walked-when, walked-reject, walked-each}
+use Rattle.facts.proofs.Walking.{Grows, grows-refl, grows-trans, Walks, walks-next, walks-end, walks-map, walked-when, walked-reject, walked-each}
 
 -- what a block leaves all through: its number, and how SNR offsets are sent
 unfoldable pub throughBlock : Ranges
@@ -106,7 +107,7 @@ module _ (s : List ℕ) (l : ℕ) where
   passed : (c : Cond) (n : ℕ) (b : Block) (st : State) (p : ℕ) (es : List Entry) {R : Point} → Within (st .cells) → (holdsOf c (st .cells) ≡ false → Walks s l Unmet b st p es R)
       → Walks s l Unmet (reject c n ⨾ b) st p es R
   passed c n b st p es {R} w h =
-      walks-next s l Unmet (reject c n) b st p es {M = λ a q fs. Walks s l Unmet b a q fs R} (by-bounds (reject c n) es st refl w) (walked-reject s l Unmet c n st p es h) (λ a q fs r. r)
+      walks-next s l Unmet (reject c n) b st p es {M = λ a q fs. Walks s l Unmet b a q fs R} (by-bounds (reject c n) st p es refl w) (walked-reject s l Unmet c n st p es h) (λ a q fs r. r)
 
   -- the coupling channel; its first bin alone
   record Coupled (st : State) (es : List Entry) (a : State) (q : ℕ) (fs : List Entry) : Type 0 where

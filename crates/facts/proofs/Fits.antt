@@ -11,6 +11,7 @@ use Rattle.reading.specs.Run.{Entry}
 use Rattle.slots.specs.Held.{Bins}
 use Rattle.cells.specs.Cells.{State, state, Addr, cellOf, putIn, stored, placeOf, heldOf}
 use Rattle.rows.specs.Syntax.{Count, Fixed, Held, Value, Here, Let, Less, Plus, Minus, Item, Block, element, elements, span, mantissas, exponents, when, each, reject, reject-at, put, fill, derive, end, _⨾_, countOf, amountOf, filled}
+use Rattle.facts.specs.Along.{Point}
 use Rattle.facts.specs.Bounds.{Within}
 use Rattle.cells.proofs.Cells.{cell-other}
 use Rattle.facts.proofs.Cells.{cell-zero, cell-put}
@@ -198,8 +199,8 @@ module _ (byBounds : Item → Bool) where
     fits permits end ks = true
     fits permits (i ⨾ b) ks = byBounds i && (fitsIn permits i ks && fits permits b (nextOf i ks))
 
-  module _ (s : List ℕ) (l : ℕ) (Q : Item → List Entry → State → Type 0)
-      (granted : (i : Item) (es : List Entry) (st : State) → byBounds i ≡ true → Within (st .cells) → Q i es st) where
+  module _ (s : List ℕ) (l : ℕ) (Q : Item → Point)
+      (granted : (i : Item) (st : State) (p : ℕ) (es : List Entry) → byBounds i ≡ true → Within (st .cells) → Q i st p es) where
     -- from some cells and records to others
     pub record Reached (permits : Test) (st : State) (es : List Entry) (a : State) (q : ℕ) (fs : List Entry) : Type 0 where
       pub changed : Changed permits (st .cells) (a .cells)
@@ -294,6 +295,6 @@ module _ (byBounds : Item → Bool) where
       fits-block permits (i ⨾ b) ks h st p es w f =
           let t = both (byBounds i) (fitsIn permits i ks && fits permits b (nextOf i ks)) h in
           let u = both (fitsIn permits i ks) (fits permits b (nextOf i ks)) (t .1) in
-          walks-next s l Q i b st p es (granted i es st (t .0) w) (fits-item permits i ks (u .0) st p es w f)
+          walks-next s l Q i b st p es (granted i st p es (t .0) w) (fits-item permits i ks (u .0) st p es w f)
           (λ a q fs d. walks-map s l Q (λ x r gs y. reached-then permits st a x es fs gs q r (d .reached) y)
           (fits-block permits b (nextOf i ks) (u .1) a q fs (d .reached .changed .within) (d .knows)))

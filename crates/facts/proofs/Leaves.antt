@@ -12,14 +12,14 @@ use Rattle.cells.specs.Cells.{State, Addr, Sum, cellOf, putIn, stored, placeOf,
 use Rattle.cells.specs.Names.{CPL-SUBND-END, FIRSTCPLLEAK}
 use Rattle.derivations.specs.Derivations.{Allocation}
 use Rattle.rows.specs.Syntax.{Cell, Is, Not, Differs, Value, Let, Item, Block, element, elements, span, mantissas, exponents, when, each, reject, reject-at, put, fill, derive, end, _⨾_, _⧺_, cell, at, no, holdsOf, amountOf}
-use Rattle.facts.specs.Along.{Has}
+use Rattle.facts.specs.Along.{Point, Has}
 use Rattle.facts.specs.Bounds.{bounds, mostIn, most, Within}
 use Rattle.facts.specs.Unmet.{Unmet}
 use Rattle.facts.proofs.Cells.{cell-zero, cell-at, cell-beside}
 use Rattle.facts.proofs.Bounds.{both, Test, may, spread, spreads, heldLeast, heldMost, held-range, word, Permitted, Changed, changed-more, puts}
 use Rattle.facts.proofs.Bounded.{fitting}
 use Rattle.facts.proofs.Fits.{fits-block, Reached}
-use Rattle.facts.proofs.Walking.{Point, Grows, Walks, Walked, walks-append, walks-map, walks-next, walks-end, walked-element, walked-when, walked-put}
+use Rattle.facts.proofs.Walking.{Grows, Walks, Walked, walks-append, walks-map, walks-next, walks-end, walked-element, walked-when, walked-put}
 
 -- cells, from one to another
 abbrev pub Ranges : Type 0
@@ -104,19 +104,19 @@ sub-bands : most CPL-SUBND-END ≡ 18
 unfolding most mostIn bounds
 sub-bands = refl
 
-pub by-bounds : (i : Item) (es : List Entry) (st : State) → byBounds i ≡ true → Within (st .cells) → Unmet i es st
-by-bounds (element name i w a) es st h k = tt
-by-bounds (elements name i w a c f n) es st h k = tt
-by-bounds (span name c) es st h k = tt
-by-bounds (mantissas name a) es st h k = tt
-by-bounds (exponents s name i) es st h k = tt
-by-bounds (when c b) es st h k = tt
-by-bounds (each c i n b) es st h k = tt
-by-bounds (reject c n) es st h k = λ _. omega (arith, k .below CPL-SUBND-END, sub-bands)
-by-bounds (reject-at c n j) es st h k = tt
-by-bounds (put a v) es st h k = tt
-by-bounds (fill j n x y a) es st h k = tt
-by-bounds (derive j) es st h k = λ e. absurd (true≢false (sym (subst (λ x. not (eqb x Allocation) ≡ true) e h)))
+pub by-bounds : (i : Item) (st : State) (p : ℕ) (es : List Entry) → byBounds i ≡ true → Within (st .cells) → Unmet i st p es
+by-bounds (element name i w a) st p es h k = tt
+by-bounds (elements name i w a c f n) st p es h k = tt
+by-bounds (span name c) st p es h k = tt
+by-bounds (mantissas name a) st p es h k = tt
+by-bounds (exponents s name i) st p es h k = tt
+by-bounds (when c b) st p es h k = tt
+by-bounds (each c i n b) st p es h k = tt
+by-bounds (reject c n) st p es h k = λ _. omega (arith, k .below CPL-SUBND-END, sub-bands)
+by-bounds (reject-at c n j) st p es h k = tt
+by-bounds (put a v) st p es h k = tt
+by-bounds (fill j n x y a) st p es h k = tt
+by-bounds (derive j) st p es h k = λ e. absurd (true≢false (sym (subst (λ x. not (eqb x Allocation) ≡ true) e h)))
 
 -- the first items of a block, and those after them
 unfoldable pub firstItems : ℕ → Block → Block

@@ -41,7 +41,7 @@ use Rattle.annex.specs.Syncinfo.{syncinfo}
 use Rattle.annex.specs.Annex.{header, body}
 use Rattle.annex.specs.Frame.{start, tailNames, bytesOf, eac3}
 use Rattle.facts.specs.Bounds.{bounds, mostIn, most}
-use Rattle.facts.specs.Outcomes.{refusals, Numbered, spanNames, Keeps, AllKeep}
+use Rattle.facts.specs.Outcomes.{refusals, Numbered, spanNames, Keeps, farthest, AllKeep}
 use Rattle.facts.proofs.Bounded.{pages, header-within}
 use Rattle.facts.proofs.Bounds.{both}
 use Rattle.facts.proofs.Counts.{skim-reaches}
@@ -439,23 +439,23 @@ unfolding most mostIn bounds
 frmsiz-most = refl
 
 module _ (s : List ℕ) where
-  keeps-sized : (h : State) (p : ℕ) → p ≤ 48 → 8 * bytesOf h ≤ 32768 → Keeps 32768 (sized eac3 s h p)
+  keeps-sized : (h : State) (p : ℕ) → p ≤ 48 → 8 * bytesOf h ≤ farthest → Keeps farthest (sized eac3 s h p)
   unfolding sized framed finish eac3
   keeps-sized h p i j =
       let l = 8 * bytesOf h in
-      test (Keeps 32768) (leb (bytesOf h) (length s))
+      test (Keeps farthest) (leb (bytesOf h) (length s))
       (λ _. let k : Keeps (max p l) (run (meaning body h) s p l) = keeps-run s l (meaning body h) (refuses-block body rejects-body h) p in
-      keeps-after 32768 (run (meaning body h) s p l) (finish tailNames s l) (keeps-more (max p l) 32768 (omega arith) k)
+      keeps-after farthest (run (meaning body h) s p l) (finish tailNames s l) (keeps-more (max p l) farthest (omega arith) k)
       (λ a _. let r = k .place in
-      keeps-more (max (run (meaning body h) s p l .place) l) 32768 (omega arith) (keeps-tail s l (bitsAt s (l - 18) 1) a (run (meaning body h) s p l .place))))
-      (λ _. keeps-none 32768 4 p (short .1) (omega arith))
+      keeps-more (max (run (meaning body h) s p l .place) l) farthest (omega arith) (keeps-tail s l (bitsAt s (l - 18) 1) a (run (meaning body h) s p l .place))))
+      (λ _. keeps-none farthest 4 p (short .1) (omega arith))
 
 pub all-keep : AllKeep
 unfolding parse eac3
 all-keep s =
-    test (Keeps 32768) (leb 6 (length s))
+    test (Keeps farthest) (leb 6 (length s))
     (λ _. let k : Keeps 48 (run (meaning header start) s 0 48) = keeps-run s 48 (meaning header start) (refuses-block header rejects-header start) 0 in
-    keeps-after 32768 (run (meaning header start) s 0 48) (sized eac3 s) (keeps-more 48 32768 (omega arith) k)
+    keeps-after farthest (run (meaning header start) s 0 48) (sized eac3 s) (keeps-more 48 farthest (omega arith) k)
     (λ h e. keeps-sized s h (run (meaning header start) s 0 48 .place) (k .place)
-    (let w = header-within s h e .below FRMSIZ in let z : 8 * bytesOf h ≤ 32768 = omega (arith, frmsiz-most) in z)))
-    (λ _. keeps-none 32768 1 0 (short .0) (omega arith))
+    (let w = header-within s h e .below FRMSIZ in let z : 8 * bytesOf h ≤ farthest = omega (arith, frmsiz-most) in z)))
+    (λ _. keeps-none farthest 1 0 (short .0) (omega arith))

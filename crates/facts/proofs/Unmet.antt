@@ -16,6 +16,7 @@ use Rattle.annex.specs.Bsi.{mixdef3, mixing-metadata, informational-metadata, b
 use Rattle.annex.specs.Audfrm.{flags, coupling, strategies, hybrid, offsets, audfrm}
 use Rattle.annex.specs.Audblk.{dynamics, spx-strategy, spx-coordinates, cpl-strategy, cpl-coordinates, rematrixing, bandwidth, exponents-of-block, parameters, deltas, skip-field, quantized, audblk}
 use Rattle.annex.specs.Annex.{audblks, body}
+use Rattle.facts.specs.Along.{Point}
 use Rattle.facts.specs.Bounds.{bounds, mostIn, most, Within}
 use Rattle.facts.specs.Unmet.{Offsets, Ready, Unmet, NoneMet}
 use Rattle.cells.proofs.Cells.{put-sized}
@@ -26,7 +27,7 @@ use Rattle.facts.proofs.Derived.{fitsFresh, fresh-changes}
 use Rattle.facts.proofs.Exponents.{throughBlock, afterExponents, blk-same, str-same, cplinu-same, coupling-stays, channels-stay, lfe-stays, covered, Covered}
 use Rattle.facts.proofs.Leaves.{Ranges, leavesUnsent, passes, unsent-leaves, unsent-same, held-cell, is-false, whole, element-by}
 use Rattle.facts.proofs.Sent.{offsets-grow, leaks-grow, LeaksIfSent, leaks-stay, Before, parameters-walked}
-use Rattle.facts.proofs.Walking.{Point, Grows, grows-refl, Walks, walks-next, walks-map, walks-append, walked-when, walked-derive, walked-each}
+use Rattle.facts.proofs.Walking.{Grows, grows-refl, Walks, walks-next, walks-map, walks-append, walked-when, walked-derive, walked-each}
 
 module _ (s : List ℕ) (l : ℕ) where
   -- what holds all through a block

@@ -19,11 +19,7 @@ use Rattle.derivations.specs.Derivations.{derived}
 use Rattle.derivations.specs.Sets.{exponentsOf}
 use Rattle.derivations.specs.Shapes.{mantissasIn}
 use Rattle.rows.specs.Syntax.{Cond, Count, Value, Item, Block, element, elements, span, mantissas, exponents, when, each, reject, reject-at, put, fill, derive, end, _⨾_, _⧺_, none, holdsOf, countOf, amountOf, turns, filled, one, item, meaning}
-use Rattle.facts.specs.Along.{Has, Then, Turning, Inside, Along}
-
--- what holds of a state, a place and the records so far
-abbrev pub Point : Type 1
-Point = State → ℕ → List Entry → Type 0
+use Rattle.facts.specs.Along.{Point, Has, Then, Turning, Inside, Along}
 
 -- the records so far only grow
 pub record Grows (es fs : List Entry) : Type 0 where
@@ -138,7 +134,7 @@ module _ (s : List ℕ) (l : ℕ) where
         → Then s l (turns (top - i) i k f st) p es R
     loop-ends i st p es R h r a e = r (i + (top - i)) a _ _ (omega arith) (turned (top - i) i (i + (top - i)) st p es (omega arith) refl h a e)
 
-module _ (s : List ℕ) (l : ℕ) (Q : Item → List Entry → State → Type 0) where
+module _ (s : List ℕ) (l : ℕ) (Q : Item → Point) where
   pub record Walks (b : Block) (st : State) (p : ℕ) (es : List Entry) (R : Point) : Type 0 where
     pub along : Along s l Q b st p es
     pub ends : Then s l (meaning b st) p es R
@@ -151,7 +147,7 @@ module _ (s : List ℕ) (l : ℕ) (Q : Item → List Entry → State → Type 0)
   unfolding Along meaning
   walks-end st p es {R} h = record { along = tt; ends = then-done s l st p es R h }
 
-  pub walks-next : (i : Item) (b : Block) (st : State) (p : ℕ) (es : List Entry) {M R : Point} → Q i es st → Walked i st p es M
+  pub walks-next : (i : Item) (b : Block) (st : State) (p : ℕ) (es : List Entry) {M R : Point} → Q i st p es → Walked i st p es M
       → ((a : State) (q : ℕ) (fs : List Entry) → M a q fs → Walks b a q fs R) → Walks (i ⨾ b) st p es R
   unfolding Along meaning
   walks-next i b st p es {M} {R} h w k = record {

@@ -1,4 +1,4 @@
--- What holds wherever a reading comes: of each item that it comes to, with the records so far and the cells then.
+-- What holds wherever a reading comes: of each item that it comes to, with the state and the bit place then, and the records so far.
 use mathlib.Core.Path.{_≡_}
 use mathlib.Core.Bool.{true}
 use mathlib.Core.List.{List, [], _∷_, _++_}
@@ -9,6 +9,10 @@ use Rattle.reading.specs.Run.{Entry, accepted, run}
 use Rattle.cells.specs.Cells.{State, stored, sumOf}
 use Rattle.rows.specs.Syntax.{Item, Block, element, elements, span, mantissas, exponents, when, each, reject, reject-at, put, fill, derive, end, _⨾_, holdsOf, countOf, item, meaning}
 
+-- what holds of a state, a place and the records so far
+abbrev pub Point : Type 1
+Point = State → ℕ → List Entry → Type 0
+
 -- a record of this name is among the records
 abbrev pub Has : ℕ → List Entry → Type 0
 Has n [] = ⊥
@@ -16,15 +20,15 @@ Has n (e ∷ es) = (e .field .name ≡ n) ⊎ Has n es
 
 module _ (s : List ℕ) (l : ℕ) where
   -- what holds after a tree, from the place p and after the records es, where the tree is accepted
-  abbrev pub Then : Tree State → ℕ → List Entry → (State → ℕ → List Entry → Type 0) → Type 0
+  abbrev pub Then : Tree State → ℕ → List Entry → Point → Type 0
   Then t p es R = (a : State) → run t s p l .result ≡ accepted a → R a (run t s p l .place) (es ++ run t s p l .records)
 
   -- A of each of n turns from the number i on, which stands in the cell k meanwhile
-  unfoldable pub Turning : (State → ℕ → List Entry → Type 0) → (State → Tree State) → ℕ → ℕ → ℕ → State → ℕ → List Entry → Type 0
+  unfoldable pub Turning : Point → (State → Tree State) → ℕ → ℕ → ℕ → State → ℕ → List Entry → Type 0
   Turning A f zero i k st p es = Unit {0}
   Turning A f (suc n) i k st p es = A (stored st k i) p es × Then (f (stored st k i)) p es (λ a q fs. Turning A f n (suc i) k a q fs)
 
-  module _ (Q : Item → List Entry → State → Type 0) where
+  module _ (Q : Item → Point) where
     unfoldable mutual
       -- inside an item
       pub Inside : Item → State → ℕ → List Entry → Type 0
@@ -44,4 +48,4 @@ module _ (s : List ℕ) (l : ℕ) where
 
       pub Along : Block → State → ℕ → List Entry → Type 0
       Along end st p es = Unit {0}
-      Along (i ⨾ b) st p es = Q i es st × Inside i st p es × Then (item i st) p es (λ a q fs. Along b a q fs)
+      Along (i ⨾ b) st p es = Q i st p es × Inside i st p es × Then (item i st) p es (λ a q fs. Along b a q fs)

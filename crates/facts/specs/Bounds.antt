@@ -12,7 +12,7 @@ use Rattle.cells.specs.Names.{ABSEXP, ACMOD, ADDBSIE, ADDBSIL, AHT-READ, AHTE, 
 use Rattle.rows.specs.Syntax.{Item, meaning}
 use Rattle.annex.specs.Annex.{header, body}
 use Rattle.annex.specs.Frame.{start, bytesOf}
-use Rattle.facts.specs.Along.{Along}
+use Rattle.facts.specs.Along.{Point, Along}
 
 -- the cells from one to another, and the most that they hold
 abbrev pub Bound : Type 0
@@ -50,8 +50,8 @@ pub record Within (m : List ℕ) : Type 0 where
   pub below : (j : ℕ) → cellOf m j ≤ most j
   pub lfe : (cellOf m (HELDEND + 6) ≡ 0) ⊎ (cellOf m (HELDEND + 6) ≡ 7)
 
-abbrev pub Bounded : Item → List Entry → State → Type 0
-Bounded i es st = Within (st .cells)
+abbrev pub Bounded : Item → Point
+Bounded i st p es = Within (st .cells)
 
 -- whatever the buffer, wherever the reading of its body comes
 abbrev pub BodyBounded : Type 0

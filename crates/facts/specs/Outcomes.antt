@@ -31,5 +31,8 @@ pub record Keeps {A : Type 0} (m : ℕ) (o : Outcome A) : Type 0 where
   pub spans : All Named (o .records)
 
 -- a frame has at most 4,096 bytes
+abbrev pub farthest : ℕ
+farthest = 32768
+
 abbrev pub AllKeep : Type 0
-AllKeep = (s : List ℕ) → Keeps 32768 (parse eac3 s)
+AllKeep = (s : List ℕ) → Keeps farthest (parse eac3 s)

@@ -12,7 +12,7 @@ use Rattle.derivations.specs.Derivations.{Allocation}
 use Rattle.rows.specs.Syntax.{Item, element, elements, span, mantissas, exponents, when, each, reject, reject-at, put, fill, derive, meaning}
 use Rattle.annex.specs.Annex.{header, body}
 use Rattle.annex.specs.Frame.{start, bytesOf}
-use Rattle.facts.specs.Along.{Has, Along}
+use Rattle.facts.specs.Along.{Point, Has, Along}
 
 -- SNR offsets were sent; and coupling leaks
 abbrev pub Offsets : List Entry → Type 0
@@ -40,19 +40,19 @@ pub record Ready (es : List Entry) (m : List ℕ) : Type 0 where
   pub leaks : cellOf m CPLINU ≡ 1 → Leaks es
 
 -- at the rejection 22 cplbegf + ncplsubnd, which is cplendf + 3, is at most 18: the upper half of that test is not met
-abbrev pub Unmet : Item → List Entry → State → Type 0
-Unmet (element name i w a) es st = Unit {0}
-Unmet (elements name i w a k f n) es st = Unit {0}
-Unmet (span name k) es st = Unit {0}
-Unmet (mantissas name a) es st = Unit {0}
-Unmet (exponents s name i) es st = Unit {0}
-Unmet (when c b) es st = Unit {0}
-Unmet (each k i n b) es st = Unit {0}
-Unmet (reject c n) es st = n ≡ 22 → cellOf (st .cells) CPL-SUBND-END ≤ 18
-Unmet (reject-at c n k) es st = Unit {0}
-Unmet (put a v) es st = Unit {0}
-Unmet (fill k n x y a) es st = Unit {0}
-Unmet (derive k) es st = k ≡ Allocation → Ready es (st .cells)
+abbrev pub Unmet : Item → Point
+Unmet (element name i w a) st p es = Unit {0}
+Unmet (elements name i w a k f n) st p es = Unit {0}
+Unmet (span name k) st p es = Unit {0}
+Unmet (mantissas name a) st p es = Unit {0}
+Unmet (exponents s name i) st p es = Unit {0}
+Unmet (when c b) st p es = Unit {0}
+Unmet (each k i n b) st p es = Unit {0}
+Unmet (reject c n) st p es = n ≡ 22 → cellOf (st .cells) CPL-SUBND-END ≤ 18
+Unmet (reject-at c n k) st p es = Unit {0}
+Unmet (put a v) st p es = Unit {0}
+Unmet (fill k n x y a) st p es = Unit {0}
+Unmet (derive k) st p es = k ≡ Allocation → Ready es (st .cells)
 
 -- whatever the buffer, wherever the reading of its body comes
 abbrev pub NoneMet : Type 0
