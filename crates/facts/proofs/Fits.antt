@@ -287,7 +287,7 @@ module _ (byBounds : Item → Bool) where
           walked-fill s l Q k n x y a st p es
           (record { reached = record { changed = fill-changes permits (st .cells) k (x + y * heldOf a (st .cells)) n (heldLeast (Let x y a) ks) (heldMost (Let x y a) ks) w h (r .0) (r .1); grows = grows-refl es }; knows = tt })
       fits-item permits (derive k) ks h st p es w f =
-          walked-derive s l Q k st p es (record { reached = record { changed = derived-changes permits k st w h; grows = grows-refl es }; knows = tt })
+          walked-derive s l Q k st p es (λ _. record { reached = record { changed = derived-changes permits k st w h; grows = grows-refl es }; knows = tt })
 
       pub fits-block : (permits : Test) (b : Block) (ks : Known) → fits permits b ks ≡ true → (st : State) (p : ℕ) (es : List Entry) → Within (st .cells) → Knows ks (st .cells)
           → Walks s l Q b st p es (Reached permits st es)

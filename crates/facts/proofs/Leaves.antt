@@ -19,7 +19,7 @@ use Rattle.facts.proofs.Cells.{cell-zero, cell-at, cell-beside}
 use Rattle.facts.proofs.Bounds.{both, Test, may, spread, spreads, heldLeast, heldMost, held-range, word, Permitted, Changed, changed-more, puts}
 use Rattle.facts.proofs.Bounded.{fitting}
 use Rattle.facts.proofs.Fits.{fits-block, Reached}
-use Rattle.facts.proofs.Walking.{Grows, Walks, Walked, walks-append, walks-map, walks-next, walks-end, walked-element, walked-when, walked-put}
+use Rattle.facts.proofs.Walking.{Grows, Walks, Walked, walks-append, walks-map, walks-next, walks-end, walked-element, walked-exponents, walked-when, walked-put}
 
 -- cells, from one to another
 abbrev pub Ranges : Type 0
@@ -85,13 +85,13 @@ first-leak rs x y g e = go (g .each FIRSTCPLLEAK (omega arith))
         let b : leb 1 (a .least) ≡ true = both (outside rs FIRSTCPLLEAK) (leb 1 (a .least)) (a .okay) .1 in
         absurd (let z : ⊥ = omega (arith, leb-true 1 (a .least) b, a .above) in z)
 
--- all items but the allocation ask for no more than the bounds
+-- all items but a set of exponents and the allocation ask for no more than the bounds
 abbrev pub byBounds : Item → Bool
 byBounds (element name i w a) = true
 byBounds (elements name i w a k f n) = true
 byBounds (span name k) = true
 byBounds (mantissas name a) = true
-byBounds (exponents s name i) = true
+byBounds (exponents s name i) = false
 byBounds (when c b) = true
 byBounds (each k i n b) = true
 byBounds (reject c n) = true
@@ -109,7 +109,7 @@ by-bounds (element name i w a) st p es h k = tt
 by-bounds (elements name i w a c f n) st p es h k = tt
 by-bounds (span name c) st p es h k = tt
 by-bounds (mantissas name a) st p es h k = tt
-by-bounds (exponents s name i) st p es h k = tt
+by-bounds (exponents s name i) st p es h k = absurd (true≢false (sym h))
 by-bounds (when c b) st p es h k = tt
 by-bounds (each c i n b) st p es h k = tt
 by-bounds (reject c n) st p es h k = λ _. omega (arith, k .below CPL-SUBND-END, sub-bands)
@@ -176,6 +176,9 @@ is-true k x m h = sym (held-cell k m) ∙ eqb-true (heldOf (cell k) m) x h
 
 pub is-false : (k x : ℕ) (m : List ℕ) → holdsOf (Is (cell k) x) m ≡ false → ¬ (cellOf m k ≡ x)
 is-false k x m h e = eqb-false (heldOf (cell k) m) x h (held-cell k m ∙ e)
+
+pub picked-true : (a : Addr) (x : ℕ) (m : List ℕ) → holdsOf (Not a x) m ≡ true → ¬ (heldOf a m ≡ x)
+picked-true a x m h = eqb-false (heldOf a m) x (not-true (eqb (heldOf a m) x) h)
 
 pub not-true-at : (k x : ℕ) (m : List ℕ) → holdsOf (Not (cell k) x) m ≡ true → ¬ (cellOf m k ≡ x)
 not-true-at k x m h = is-false k x m (not-true (eqb (heldOf (cell k) m) x) h)
@@ -248,6 +251,13 @@ module _ (s : List ℕ) (l : ℕ) where
       → ((y : State) → Changed permits (st .cells) (y .cells) → cellOf (y .cells) k ≡ x → ((j : ℕ) → j < 1024 → ¬ (j ≡ k) → cellOf (y .cells) j ≡ cellOf (st .cells) j) → R y p es)
       → Walked s l Unmet (put (cell k) (Let x 0 no)) st p es R
   number-by permits k x h st p es w i j f r = put-by permits (cell k) (Let x 0 no) h st p es w k x (place-cell k (st .cells)) (omega arith) i j f r
+
+  -- a set of exponents changes no cell
+  pub set-by : (x : Sum) (name : ℕ) (i : Sum) (b : Block) (st : State) (p : ℕ) (es : List Entry) {R : Point} → Unmet (exponents x name i) st p es
+      → ((y : State) (q : ℕ) (fs : List Entry) → st .cells ≡ y .cells → Grows es fs → Walks s l Unmet b y q fs R) → Walks s l Unmet (exponents x name i ⨾ b) st p es R
+  set-by x name i b st p es h k =
+      walks-next s l Unmet _ _ st p es {M = λ y q fs. (st .cells ≡ y .cells) × Grows es fs} h
+      (walked-exponents s l Unmet x name i st p es (λ c q fs g. (refl, g))) (λ y q fs m. k y q fs (m .0) (m .1))
 
   -- an element
   pub element-by : (permits : Test) (name : ℕ) (i : Sum) (n : ℕ) (a : Addr) → passes permits (element name i n a ⨾ end) ≡ true → (st : State) (p : ℕ) (es : List Entry) → Within (st .cells) → {R : Point}

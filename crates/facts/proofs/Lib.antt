@@ -8,6 +8,9 @@ pub mod Counts
 pub mod Outcomes
 pub mod Room
 pub mod Leaves
+pub mod Ranges
 pub mod Exponents
+pub mod Bandwidth
+pub mod Uses
 pub mod Sent
 pub mod Unmet

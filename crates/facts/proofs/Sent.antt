@@ -14,7 +14,8 @@ use Rattle.facts.specs.Along.{Has}
 use Rattle.facts.specs.Bounds.{bounds, mostIn, most, Within}
 use Rattle.facts.specs.Unmet.{Offsets, Leaks, Unmet}
 use Rattle.facts.proofs.Bounds.{Changed, changed-none, changed-then}
-use Rattle.facts.proofs.Exponents.{throughBlock, afterExponents, after-through, blk-same, str-same}
+use Rattle.facts.proofs.Exponents.{afterExponents, after-through, blk-same, str-same}
+use Rattle.facts.proofs.Ranges.{throughBlock}
 use Rattle.facts.proofs.Leaves.{Ranges, leaves, leavesUnsent, passes, unsent-leaves, firstItems, afterItems, is-true, is-false, not-true-at, not-false-at, parts, skip, whole, number-by, element-by, first-leak}
 use Rattle.facts.proofs.Walking.{Grows, grows-refl, grows-trans, Walks, walks-next, walks-end, walks-map, walked-when}
 

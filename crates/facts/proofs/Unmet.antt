@@ -3,12 +3,12 @@ use mathlib.Core.Path.{_≡_, refl, ap, sym, _∙_, subst}
 use mathlib.Core.Bool.{Bool, true, _&&_}
 use mathlib.Core.List.{List, [], _∷_}
 use mathlib.Core.Logic.{_⊎_, inl, inr}
-use Prim.Native.Nat.{ℕ, suc, _+_, _%_, _≤_, _<_}
+use Prim.Native.Nat.{ℕ, zero, suc, _+_, _%_, _≤_, _<_}
 use native.Mathlib.Omega.{arith}
 use Rattle.names.specs.Names.{frmcsnroffst}
 use Rattle.reading.specs.Run.{Entry}
 use Rattle.cells.specs.Cells.{State, cellOf, putIn, stored, heldOf}
-use Rattle.cells.specs.Names.{BLK, FIRSTCPLLEAK, NUMBLKS, SNROFFSTSTR}
+use Rattle.cells.specs.Names.{BLK, CHBWCOD, CPL-SUBND-END, CPLBEGF, CPLINUS, CPLSTRE, FIRSTCPLLEAK, NUMBLKS, SNROFFSTSTR}
 use Rattle.derivations.specs.Allocating.{freshBy, allocateIn}
 use Rattle.derivations.specs.Derivations.{Allocation, Fresh, derived}
 use Rattle.rows.specs.Syntax.{Block, _⧺_, cell}
@@ -20,21 +20,39 @@ use Rattle.facts.specs.Along.{Point}
 use Rattle.facts.specs.Bounds.{bounds, mostIn, most, Within}
 use Rattle.facts.specs.Unmet.{Offsets, Ready, Unmet, NoneMet}
 use Rattle.cells.proofs.Cells.{put-sized}
-use Rattle.facts.proofs.Cells.{cell-zero, cell-at}
+use Rattle.facts.proofs.Cells.{cell-zero, cell-at, cell-beside}
 use Rattle.facts.proofs.Bounds.{both, may, Changed, puts}
 use Rattle.facts.proofs.Bounded.{header-within}
 use Rattle.facts.proofs.Derived.{fitsFresh, fresh-changes}
-use Rattle.facts.proofs.Exponents.{throughBlock, afterExponents, blk-same, str-same, cplinu-same, coupling-stays, channels-stay, lfe-stays, covered, Covered}
-use Rattle.facts.proofs.Leaves.{Ranges, leavesUnsent, passes, unsent-leaves, unsent-same, held-cell, is-false, whole, element-by}
+use Rattle.facts.proofs.Exponents.{afterExponents, after-exponents, exponents-through, after-through, fewer, blk-same, str-same, coupling-stays, channels-stay, lfe-stays, covered, Covered}
+use Rattle.facts.proofs.Ranges.{throughBlock, early, settled, early-through, settled-through, exponents-settled, cplinu-same, Settled, Unsettled, Ranged, unsettled-stays, settled-stays, block-same, through-same, settled-kept}
+use Rattle.facts.proofs.Bandwidth.{Strategy, strategy-walk, Bandwidth, bandwidth-walk}
+use Rattle.facts.proofs.Uses.{unset, uses, Unset, unset-stays, Linked, linked-stays, Uses, uses-stay, header-unset, uses-walk, numblks-most}
+use Rattle.facts.proofs.Leaves.{Ranges, leaves, leavesUnsent, unsent-fewer, passes, unsent-leaves, unsent-same, held-cell, is-false, whole, element-by}
 use Rattle.facts.proofs.Sent.{offsets-grow, leaks-grow, LeaksIfSent, leaks-stay, Before, parameters-walked}
 use Rattle.facts.proofs.Walking.{Grows, grows-refl, Walks, walks-next, walks-map, walks-append, walked-when, walked-derive, walked-each}
 
 module _ (s : List ℕ) (l : ℕ) where
-  -- what holds all through a block
-  record InBlock (es : List Entry) (m : List ℕ) : Type 0 where
+  -- the block j of n
+  record Numbered (n j : ℕ) (m : List ℕ) : Type 0 where
+    linked : Linked n m
+    few : n ≤ 6
+    number : cellOf m BLK ≡ j
+
+  numbered-stays : (n j : ℕ) (x y : List ℕ) → Changed (leavesUnsent throughBlock) x y → Numbered n j x → Numbered n j y
+  unfolding throughBlock
+  numbered-stays n j x y g c = record {
+    linked = linked-stays n x y (c .few) (λ k a b. unsent-same throughBlock x y k g (omega arith) (inr (inr (inl (a, b))))) (c .linked);
+    few = c .few;
+    number = blk-same x y (unsent-leaves throughBlock x y g) ∙ c .number;
+  }
+
+  -- what holds all through it
+  record InBlock (n j : ℕ) (es : List Entry) (m : List ℕ) : Type 0 where
     within : Within m
     before : Before s l es m
     leaks : LeaksIfSent es m
+    numbered : Numbered n j m
 
   before-stays : (x y : List ℕ) (es fs : List Entry) → Changed (leavesUnsent throughBlock) x y → Grows es fs → Before s l es x → Before s l fs y
   before-stays x y es fs g h (inl o) = inl (offsets-grow es fs h o)
@@ -42,12 +60,28 @@ module _ (s : List ℕ) (l : ℕ) where
       let k = unsent-leaves throughBlock x y g in
       inr (blk-same x y k ∙ o .0, λ e. o .1 (sym (str-same x y k) ∙ e))
 
-  block-stays : (x y : List ℕ) (es fs : List Entry) → Changed (leavesUnsent throughBlock) x y → Grows es fs → InBlock es x → InBlock fs y
-  block-stays x y es fs g h c = record {
+  block-stays : (n j : ℕ) (x y : List ℕ) (es fs : List Entry) → Changed (leavesUnsent throughBlock) x y → Grows es fs → InBlock n j es x → InBlock n j fs y
+  block-stays n j x y es fs g h c = record {
     within = g .within;
     before = before-stays x y es fs g h (c .before);
     leaks = leaks-stay throughBlock x y es fs g h (c .leaks);
+    numbered = numbered-stays n j x y g (c .numbered);
   }
+
+  -- before its coupling strategy, and after it
+  record EarlyBlock (n j : ℕ) (es : List Entry) (m : List ℕ) : Type 0 where
+    block : InBlock n j es m
+    unsettled : Unsettled m
+
+  record SettledBlock (n j : ℕ) (es : List Entry) (m : List ℕ) : Type 0 where
+    block : InBlock n j es m
+    settled-now : Settled m
+
+  early-stays : (n j : ℕ) (x y : List ℕ) (es fs : List Entry) → Changed (leavesUnsent early) x y → Grows es fs → EarlyBlock n j es x → EarlyBlock n j fs y
+  early-stays n j x y es fs g h c = record { block = block-stays n j x y es fs (early-through x y g) h (c .block); unsettled = unsettled-stays x y g (c .unsettled) }
+
+  settled-block-stays : (n j : ℕ) (x y : List ℕ) (es fs : List Entry) → Changed (leavesUnsent settled) x y → Grows es fs → SettledBlock n j es x → SettledBlock n j fs y
+  settled-block-stays n j x y es fs g h c = record { block = block-stays n j x y es fs (settled-through x y g) h (c .block); settled-now = settled-stays x y g (c .settled-now) }
 
   -- sections one after another, each of which passes the test
   joined : List Block → Block → Block
@@ -71,34 +105,45 @@ module _ (s : List ℕ) (l : ℕ) where
       (whole s l (leavesUnsent rs) b (t .0) st p es (w es (st .cells) g) (λ a q fs i j. f (st .cells) (a .cells) es fs i j g))
       (λ a q fs i. pass rs I w f bs c (t .1) a q fs i k)
 
-  -- those of a block before its exponents; between its parameters and the allocation
-  early : List Block
-  early = dynamics ∷ spx-strategy ∷ spx-coordinates ∷ cpl-strategy ∷ cpl-coordinates ∷ rematrixing ∷ bandwidth ∷ []
+  -- those of a block before its coupling strategy; between it and the bandwidth; between its parameters and the allocation
+  first : List Block
+  first = dynamics ∷ spx-strategy ∷ spx-coordinates ∷ []
+
+  second : List Block
+  second = cpl-coordinates ∷ rematrixing ∷ []
 
   late : List Block
   late = deltas ∷ skip-field ∷ []
 
-  pass-early : allPass throughBlock early ≡ true
-  unfolding allPass early passes throughBlock dynamics spx-strategy spx-coordinates cpl-strategy cpl-coordinates rematrixing bandwidth
-  pass-early = refl
+  pass-first : allPass early first ≡ true
+  unfolding allPass first passes early dynamics spx-strategy spx-coordinates
+  pass-first = refl
+
+  pass-second : allPass settled second ≡ true
+  unfolding allPass second passes settled cpl-coordinates rematrixing
+  pass-second = refl
 
   pass-late : allPass afterExponents late ≡ true
   unfolding allPass late passes afterExponents deltas skip-field
   pass-late = refl
 
   -- before an allocation, and after a block
-  record Allocating (es : List Entry) (m : List ℕ) : Type 0 where
+  record Allocating (n j : ℕ) (es : List Entry) (m : List ℕ) : Type 0 where
     within : Within m
     ready : Ready es m
     leaks : LeaksIfSent es m
+    numbered : Numbered n j m
+    settled-now : Settled m
 
-  record AfterBlock (es : List Entry) (m : List ℕ) : Type 0 where
+  record AfterBlock (n j : ℕ) (es : List Entry) (m : List ℕ) : Type 0 where
     within : Within m
     offsets : Offsets es
     leaks : LeaksIfSent es m
+    numbered : Numbered n j m
+    settled-now : Settled m
 
-  allocating-stays : (x y : List ℕ) (es fs : List Entry) → Changed (leavesUnsent afterExponents) x y → Grows es fs → Allocating es x → Allocating fs y
-  allocating-stays x y es fs g h t =
+  allocating-stays : (n j : ℕ) (x y : List ℕ) (es fs : List Entry) → Changed (leavesUnsent afterExponents) x y → Grows es fs → Allocating n j es x → Allocating n j fs y
+  allocating-stays n j x y es fs g h t =
       let f = unsent-leaves afterExponents x y g in
       record {
         within = g .within;
@@ -107,32 +152,43 @@ module _ (s : List ℕ) (l : ℕ) where
           coupling = coupling-stays x y f (t .ready .coupling);
           lfe = lfe-stays x y f (t .ready .lfe);
           offsets = offsets-grow es fs h (t .ready .offsets);
-          leaks = λ e. leaks-grow es fs h (t .ready .leaks (sym (cplinu-same x y f) ∙ e));
+          leaks = λ e. leaks-grow es fs h (t .ready .leaks (sym (cplinu-same x y (fewer x y f)) ∙ e));
         };
         leaks = leaks-stay afterExponents x y es fs g h (t .leaks);
+        numbered = numbered-stays n j x y (after-through x y g) (t .numbered);
+        settled-now = settled-stays x y (exponents-settled x y (after-exponents x y g)) (t .settled-now);
       }
 
   allocated-cells : (st : State) → derived Allocation st .st .cells ≡ st .cells
   unfolding derived allocateIn
   allocated-cells st = refl
 
-  quantized-walk : (st : State) (p : ℕ) (es : List Entry) → Allocating es (st .cells) → Walks s l Unmet quantized st p es (λ a q fs. AfterBlock fs (a .cells))
-  unfolding quantized passes
-  quantized-walk st p es c =
-      walks-next s l Unmet _ _ st p es {M = λ a q fs. Allocating fs (a .cells)} (λ _. c .ready)
-      (walked-derive s l Unmet Allocation st p es (subst (Allocating es) (sym (allocated-cells st)) c))
-      (λ a q fs d. whole s l (leavesUnsent []) _ refl a q fs (d .within)
+  quantized-walk : (n j : ℕ) (st : State) (p : ℕ) (es : List Entry) → Allocating n j es (st .cells) → Walks s l Unmet quantized st p es (λ a q fs. AfterBlock n j fs (a .cells))
+  unfolding quantized passes settled
+  quantized-walk n j st p es c =
+      walks-next s l Unmet _ _ st p es {M = λ a q fs. Allocating n j fs (a .cells)} (λ _. c .ready)
+      (walked-derive s l Unmet Allocation st p es (λ _. subst (Allocating n j es) (sym (allocated-cells st)) c))
+      (λ a q fs d. whole s l (leavesUnsent settled) _ refl a q fs (d .within)
       (λ b r gs g h. record {
         within = g .within;
         offsets = offsets-grow fs gs h (d .ready .offsets);
-        leaks = leaks-stay [] (a .cells) (b .cells) fs gs g h (d .leaks);
+        leaks = leaks-stay settled (a .cells) (b .cells) fs gs g h (d .leaks);
+        numbered = numbered-stays n j (a .cells) (b .cells) (settled-through (a .cells) (b .cells) g) (d .numbered);
+        settled-now = settled-stays (a .cells) (b .cells) g (d .settled-now);
       }))
 
-  -- the parameters after the exponents
-  parameters-walk : (c : Block) (x : State) (xs : List Entry) (st : State) (p : ℕ) (es : List Entry) → InBlock es (st .cells) → Covered s l x xs st p es → {R : Point}
-      → ((a : State) (q : ℕ) (fs : List Entry) → Allocating fs (a .cells) → Walks s l Unmet c a q fs R) → Walks s l Unmet (parameters ⧺ c) st p es R
-  parameters-walk c x xs st p es g d k =
-      walks-append s l Unmet parameters c st p es {M = λ a q fs. Allocating fs (a .cells)}
+  -- the parameters after the exponents, which may put FIRSTCPLLEAK
+  numbered-after : (n j : ℕ) (x y : List ℕ) → Changed (leaves afterExponents) x y → Numbered n j x → Numbered n j y
+  numbered-after n j x y g c = record {
+    linked = linked-stays n x y (c .few) (λ k a b. through-same x y (fewer x y g) k a b) (c .linked);
+    few = c .few;
+    number = block-same x y (fewer x y g) ∙ c .number;
+  }
+
+  parameters-walk : (n j : ℕ) (c : Block) (x : State) (xs : List Entry) (st : State) (p : ℕ) (es : List Entry) → SettledBlock n j es (st .cells) → Covered s l x xs st p es → {R : Point}
+      → ((a : State) (q : ℕ) (fs : List Entry) → Allocating n j fs (a .cells) → Walks s l Unmet c a q fs R) → Walks s l Unmet (parameters ⧺ c) st p es R
+  parameters-walk n j c x xs st p es g d k =
+      walks-append s l Unmet parameters c st p es {M = λ a q fs. Allocating n j fs (a .cells)}
       (walks-map s l Unmet
       (λ a q fs t.
       let f = t .after-leaks .changed in
@@ -146,55 +202,100 @@ module _ (s : List ℕ) (l : ℕ) where
           leaks = t .after-leaks .leaks;
         };
         leaks = t .after-leaks .if-sent;
+        numbered = numbered-after n j (st .cells) (a .cells) f (g .block .numbered);
+        settled-now = settled-kept (st .cells) (a .cells) (fewer (st .cells) (a .cells) f) (g .settled-now);
       })
-      (parameters-walked s l st p es (g .within) (g .before) (g .leaks)))
+      (parameters-walked s l st p es (g .block .within) (g .block .before) (g .block .leaks)))
       k
 
-  block-walk : (st : State) (p : ℕ) (es : List Entry) → InBlock es (st .cells) → Walks s l Unmet audblk st p es (λ a q fs. AfterBlock fs (a .cells))
-  unfolding audblk joined early late
-  block-walk st p es g =
-      pass throughBlock InBlock (λ _ _ i. i .within) block-stays early (exponents-of-block ⧺ parameters ⧺ deltas ⧺ skip-field ⧺ quantized) pass-early st p es g
-      (λ a q fs g. walks-append s l Unmet exponents-of-block _ a q fs (covered s l a q fs (g .within))
-      (λ b r gs d. parameters-walk _ a fs b r gs (block-stays (a .cells) (b .cells) fs gs (d .since .changed) (d .since .grows) g) d
-      (λ c u hs t. pass afterExponents Allocating (λ _ _ i. i .within) allocating-stays late quantized pass-late c u hs t (λ e v is f. quantized-walk e v is f))))
+  -- from the exponents on
+  exponents-walk : (n j : ℕ) (st : State) (p : ℕ) (es : List Entry) → SettledBlock n j es (st .cells) → Ranged (st .cells)
+      → Walks s l Unmet (exponents-of-block ⧺ parameters ⧺ deltas ⧺ skip-field ⧺ quantized) st p es (λ a q fs. AfterBlock n j fs (a .cells))
+  unfolding joined late
+  exponents-walk n j a q fs g ranged =
+      walks-append s l Unmet exponents-of-block _ a q fs (covered s l a q fs (g .block .within) ranged)
+      (λ b r gs d. parameters-walk n j _ a fs b r gs (settled-block-stays n j (a .cells) (b .cells) fs gs (exponents-settled (a .cells) (b .cells) (d .since .changed)) (d .since .grows) g) d
+      (λ c u hs t. pass afterExponents (Allocating n j) (λ _ _ i. i .within) (allocating-stays n j) late quantized pass-late c u hs t (λ e v is f. quantized-walk n j e v is f)))
 
-  -- before the block j: offsets were sent, or the first block will send them
-  record Blocks (j : ℕ) (a : State) (q : ℕ) (fs : List Entry) : Type 0 where
+  block-walk : (n j : ℕ) (st : State) (p : ℕ) (es : List Entry) → EarlyBlock n j es (st .cells) → Walks s l Unmet audblk st p es (λ a q fs. AfterBlock n j fs (a .cells))
+  unfolding audblk joined first second
+  block-walk n j st p es g =
+      pass early (EarlyBlock n j) (λ _ _ i. i .block .within) (early-stays n j) first _ pass-first st p es g
+      (λ a q fs g. walks-append s l Unmet cpl-strategy _ a q fs (strategy-walk s l a q fs (g .block .within) (g .unsettled))
+      (λ b r gs d. pass settled (SettledBlock n j) (λ _ _ i. i .block .within) (settled-block-stays n j) second _ pass-second b r gs
+      (record { block = block-stays n j (a .cells) (b .cells) fs gs (d .changed) (d .grows) (g .block); settled-now = d .settled-now })
+      (λ c u hs g. walks-append s l Unmet bandwidth _ c u hs (bandwidth-walk s l c u hs (g .block .within) (g .settled-now))
+      (λ e v is d. exponents-walk n j e v is (record { block = block-stays n j (c .cells) (e .cells) hs is (d .changed) (d .grows) (g .block); settled-now = d .settled-now }) (d .ranged)))))
+
+  -- before the block j of n: offsets were sent, or the first block will send them; the last block is settled
+  record Blocks (n j : ℕ) (a : State) (q : ℕ) (fs : List Entry) : Type 0 where
     within : Within (a .cells)
     leaks : LeaksIfSent fs (a .cells)
     sent : Offsets fs ⊎ ((j ≡ 0) × ¬ (cellOf (a .cells) SNROFFSTSTR ≡ 0))
+    linked : Linked n (a .cells)
+    coded : (ch : ℕ) → ch < 5 → cellOf (a .cells) (CHBWCOD + ch) ≤ 60
+    coupled : (c : ℕ) → j ≡ suc c → cellOf (a .cells) (CPLINUS + c) ≡ 1 → cellOf (a .cells) CPLBEGF < cellOf (a .cells) CPL-SUBND-END
 
   -- what the number of a block leaves
   strategyOfOffsets : Ranges
-  strategyOfOffsets = (SNROFFSTSTR, SNROFFSTSTR) ∷ []
+  unfolding unset
+  strategyOfOffsets = (SNROFFSTSTR, SNROFFSTSTR) ∷ (CPLBEGF, CPL-SUBND-END) ∷ unset
 
   may-blk : may (leavesUnsent strategyOfOffsets) BLK 0 0 5 ≡ true
   unfolding passes strategyOfOffsets
   may-blk = refl
 
-  turn-walk : (j : ℕ) (a : State) (q : ℕ) (fs : List Entry) → j < 6 → Blocks j a q fs → Walks s l Unmet audblk (stored a BLK j) q fs (Blocks (suc j))
+  turn-walk : (n j : ℕ) (a : State) (q : ℕ) (fs : List Entry) → n ≤ 6 → j < n → Blocks n j a q fs → Walks s l Unmet audblk (stored a BLK j) q fs (Blocks n (suc j))
   unfolding strategyOfOffsets
-  turn-walk j a q fs i t =
+  turn-walk n j a q fs few i t =
       let w = t .within in
       let m = putIn (a .cells) BLK j in
       let g : Changed (leavesUnsent strategyOfOffsets) (a .cells) m = puts (leavesUnsent strategyOfOffsets) (a .cells) BLK j BLK 0 0 5 w may-blk (omega arith) (omega arith) (omega arith) (omega arith) in
       let blk : cellOf m BLK ≡ j = cell-at (a .cells) BLK j (w .sized) (omega arith) (omega arith) ∙ (let z : j % 65536 ≡ j = omega arith in z) in
-      let str : cellOf m SNROFFSTSTR ≡ cellOf (a .cells) SNROFFSTSTR = unsent-same strategyOfOffsets (a .cells) m SNROFFSTSTR g (omega arith) (inl (omega arith, omega arith)) in
-      walks-map s l Unmet (λ b r gs d. record { within = d .within; leaks = d .leaks; sent = inl (d .offsets) })
-      (block-walk (stored a BLK j) q fs (record { within = g .within; before = before m blk str (t .sent); leaks = leaks-stay strategyOfOffsets (a .cells) m fs fs g (grows-refl fs) (t .leaks) }))
+      let same : (k : ℕ) → k < 1024 → ¬ (k ≡ BLK) → cellOf m k ≡ cellOf (a .cells) k = λ k b o. cell-beside (a .cells) BLK j k b (omega arith) o in
+      walks-map s l Unmet (λ b r gs d. next b gs d)
+      (block-walk n j (stored a BLK j) q fs
+      (record {
+        block = record {
+          within = g .within;
+          before = before m blk (same SNROFFSTSTR (omega arith) (λ z. omega arith)) (t .sent);
+          leaks = leaks-stay strategyOfOffsets (a .cells) m fs fs g (grows-refl fs) (t .leaks);
+          numbered = record { linked = linked-stays n (a .cells) m few (λ k b c. same k (omega arith) (λ z. omega arith)) (t .linked); few = few; number = blk };
+        };
+        unsettled = record {
+          coded = λ ch h. rw (same (CHBWCOD + ch) (omega arith) (λ z. omega arith)) (t .coded ch h);
+          coupled = λ x y.
+              rw (same CPLBEGF (omega arith) (λ z. omega arith), same CPL-SUBND-END (omega arith) (λ z. omega arith))
+              (bands j refl
+              (sym (same (CPLSTRE + j) (omega arith) (λ z. omega arith)) ∙ ap (λ k. cellOf m (CPLSTRE + k)) (sym blk) ∙ x)
+              (sym (same (CPLINUS + j) (omega arith) (λ z. omega arith)) ∙ ap (λ k. cellOf m (CPLINUS + k)) (sym blk) ∙ y));
+        };
+      }))
     where
       before : (m : List ℕ) → cellOf m BLK ≡ j → cellOf m SNROFFSTSTR ≡ cellOf (a .cells) SNROFFSTSTR → Offsets fs ⊎ ((j ≡ 0) × ¬ (cellOf (a .cells) SNROFFSTSTR ≡ 0)) → Before s l fs m
       before m b e (inl o) = inl o
       before m b e (inr o) = inr (b ∙ o .0, λ z. o .1 (sym e ∙ z))
 
-  numblks-most : most NUMBLKS ≡ 6
-  unfolding most mostIn bounds
-  numblks-most = refl
+      -- a block that is coupled without a new strategy has the sub-bands of the block before it
+      bands : (k : ℕ) → j ≡ k → cellOf (a .cells) (CPLSTRE + k) ≡ 0 → cellOf (a .cells) (CPLINUS + k) ≡ 1 → cellOf (a .cells) CPLBEGF < cellOf (a .cells) CPL-SUBND-END
+      bands zero e x y = absurd (t .linked .first x y)
+      bands (suc c) e x y = t .coupled c e (t .linked .next c (omega arith) x y)
+
+      next : (b : State) (gs : List Entry) {r : ℕ} → AfterBlock n j gs (b .cells) → Blocks n (suc j) b r gs
+      next b gs d = record {
+        within = d .within;
+        leaks = d .leaks;
+        sent = inl (d .offsets);
+        linked = d .numbered .linked;
+        coded = d .settled-now .coded;
+        coupled = λ c e y. d .settled-now .coupled (d .settled-now .last ∙ ap (λ k. cellOf (b .cells) (CPLINUS + k)) (d .numbered .number ∙ (let z : j ≡ c = omega arith in z)) ∙ y);
+      }
 
   -- what holds before the blocks
   record Framed (es : List Entry) (m : List ℕ) : Type 0 where
     within : Within m
     leaks : LeaksIfSent es m
+    uses-now : Uses m
     sent : Offsets es ⊎ ¬ (cellOf m SNROFFSTSTR ≡ 0)
 
   abbrev Anything : Point
@@ -205,26 +306,40 @@ module _ (s : List ℕ) (l : ℕ) where
   blocks-walk st p es c =
       let n : heldOf (cell NUMBLKS) (st .cells) ≤ 6 = let e = held-cell NUMBLKS (st .cells) in omega (arith, c .within .below NUMBLKS, numblks-most) in
       walks-next s l Unmet _ _ st p es {M = λ a q fs. Within (a .cells)} tt
-      (walked-each s l Unmet BLK _ _ _ st p es Blocks
-      (record { within = c .within; leaks = c .leaks; sent = first (c .sent) })
-      (λ j a q fs i t. turn-walk j a q fs (omega arith) t)
+      (walked-each s l Unmet BLK _ _ _ st p es (Blocks (heldOf (cell NUMBLKS) (st .cells)))
+      (record {
+        within = c .within;
+        leaks = c .leaks;
+        sent = begins (c .sent);
+        linked = subst (λ i. Linked i (st .cells)) (sym (held-cell NUMBLKS (st .cells))) (c .uses-now .linked);
+        coded = c .uses-now .coded;
+        coupled = λ i e. absurd (let z : ⊥ = omega (arith, cell-zero (st .cells)) in z);
+      })
+      (λ j a q fs i t. turn-walk (heldOf (cell NUMBLKS) (st .cells)) j a q fs n i t)
       (λ j a q fs i t. t .within))
       (λ a q fs w. whole s l (leavesUnsent []) _ refl a q fs w (λ b r gs g h. tt))
     where
-      first : Offsets es ⊎ ¬ (cellOf (st .cells) SNROFFSTSTR ≡ 0) → Offsets es ⊎ ((0 + cellOf (st .cells) 0 ≡ 0) × ¬ (cellOf (st .cells) SNROFFSTSTR ≡ 0))
-      first (inl o) = inl o
-      first (inr o) = inr (let e = cell-zero (st .cells) in omega arith, o)
+      begins : Offsets es ⊎ ¬ (cellOf (st .cells) SNROFFSTSTR ≡ 0) → Offsets es ⊎ ((0 + cellOf (st .cells) 0 ≡ 0) × ¬ (cellOf (st .cells) SNROFFSTSTR ≡ 0))
+      begins (inl o) = inl o
+      begins (inr o) = inr (let e = cell-zero (st .cells) in omega arith, o)
 
   -- audfrm: nothing of leaks is sent at first; the offsets of the frame are, or those of block 0 will be
   record Begun (es : List Entry) (m : List ℕ) : Type 0 where
     within : Within m
     leaks : LeaksIfSent es m
 
-  begun-stays : (x y : List ℕ) (es fs : List Entry) → Changed (leavesUnsent []) x y → Grows es fs → Begun es x → Begun fs y
-  begun-stays x y es fs g h c = record { within = g .within; leaks = leaks-stay [] x y es fs g h (c .leaks) }
+  record BegunUses (es : List Entry) (m : List ℕ) : Type 0 where
+    begun : Begun es m
+    uses-now : Uses m
 
-  pass-fresh : fitsFresh (leavesUnsent []) ≡ true
-  unfolding passes
+  begun-stays : (rs : Ranges) (x y : List ℕ) (es fs : List Entry) → Changed (leavesUnsent rs) x y → Grows es fs → Begun es x → Begun fs y
+  begun-stays rs x y es fs g h c = record { within = g .within; leaks = leaks-stay rs x y es fs g h (c .leaks) }
+
+  begun-uses-stay : (x y : List ℕ) (es fs : List Entry) → Changed (leavesUnsent uses) x y → Grows es fs → BegunUses es x → BegunUses fs y
+  begun-uses-stay x y es fs g h c = record { begun = begun-stays uses x y es fs g h (c .begun); uses-now = uses-stay x y g (c .uses-now) }
+
+  pass-fresh : fitsFresh (leavesUnsent unset) ≡ true
+  unfolding passes unset
   pass-fresh = refl
 
   fresh-one : (m : List ℕ) → Within (freshBy m) → cellOf (freshBy m) FIRSTCPLLEAK ≡ 1
@@ -235,62 +350,83 @@ module _ (s : List ℕ) (l : ℕ) where
   unfolding derived
   derived-fresh st = refl
 
-  flags-walk : (st : State) (p : ℕ) (es : List Entry) → Within (st .cells) → Walks s l Unmet flags st p es (λ a q fs. Begun fs (a .cells))
-  unfolding flags passes
-  flags-walk st p es w =
-      walks-next s l Unmet _ _ st p es {M = λ a q fs. Begun fs (a .cells)} (λ e. absurd (let z : ⊥ = omega arith in z))
+  flags-walk : (st : State) (p : ℕ) (es : List Entry) → Within (st .cells) → Unset (st .cells) → Walks s l Unmet flags st p es (λ a q fs. Begun fs (a .cells) × Unset (a .cells))
+  unfolding flags passes unset
+  flags-walk st p es w u =
+      walks-next s l Unmet _ _ st p es {M = λ a q fs. Begun fs (a .cells) × Unset (a .cells)} (λ e. absurd (let z : ⊥ = omega arith in z))
       (walked-derive s l Unmet Fresh st p es
-      (let g = fresh-changes (leavesUnsent []) (st .cells) w pass-fresh in
-      record {
-        within = subst Within (sym (derived-fresh st)) (g .within);
-        leaks = λ e. absurd (let z = fresh-one (st .cells) (g .within) in let y = ap (λ m. cellOf m FIRSTCPLLEAK) (derived-fresh st) in omega arith);
-      }))
-      (λ a q fs c. whole s l (leavesUnsent []) _ refl a q fs (c .within) (λ b r gs g h. begun-stays (a .cells) (b .cells) fs gs g h c))
+      (λ _. let g = fresh-changes (leavesUnsent unset) (st .cells) w pass-fresh in (
+        record {
+          within = subst Within (sym (derived-fresh st)) (g .within);
+          leaks = λ e. absurd (let z = fresh-one (st .cells) (g .within) in let y = ap (λ m. cellOf m FIRSTCPLLEAK) (derived-fresh st) in let o : ⊥ = omega arith in o);
+        },
+        subst Unset (sym (derived-fresh st)) (unset-stays (st .cells) (freshBy (st .cells)) g u),
+      )))
+      (λ a q fs c. whole s l (leavesUnsent unset) _ refl a q fs (c .0 .within)
+      (λ b r gs g h. (begun-stays unset (a .cells) (b .cells) fs gs g h (c .0), unset-stays (a .cells) (b .cells) g (c .1))))
 
-  framed-stays : (x y : List ℕ) (es fs : List Entry) → Changed (leavesUnsent strategyOfOffsets) x y → Grows es fs → Framed es x → Framed fs y
-  unfolding strategyOfOffsets
-  framed-stays x y es fs g h c = record { within = g .within; leaks = leaks-stay strategyOfOffsets x y es fs g h (c .leaks); sent = go (c .sent) }
+  -- the strategy of the offsets, too
+  withStrategy : Ranges
+  unfolding uses
+  withStrategy = (SNROFFSTSTR, SNROFFSTSTR) ∷ uses
+
+  strategy-uses : (x y : List ℕ) → Changed (leavesUnsent withStrategy) x y → Changed (leavesUnsent uses) x y
+  unfolding withStrategy
+  strategy-uses x y g = unsent-fewer _ _ x y g
+
+  framed-stays : (x y : List ℕ) (es fs : List Entry) → Changed (leavesUnsent withStrategy) x y → Grows es fs → Framed es x → Framed fs y
+  unfolding withStrategy
+  framed-stays x y es fs g h c = record { within = g .within; leaks = leaks-stay withStrategy x y es fs g h (c .leaks); uses-now = uses-stay x y (strategy-uses x y g) (c .uses-now); sent = go (c .sent) }
     where
       go : Offsets es ⊎ ¬ (cellOf x SNROFFSTSTR ≡ 0) → Offsets fs ⊎ ¬ (cellOf y SNROFFSTSTR ≡ 0)
       go (inl o) = inl (offsets-grow es fs h o)
-      go (inr o) = inr (λ z. o (sym (unsent-same strategyOfOffsets x y SNROFFSTSTR g (omega arith) (inl (omega arith, omega arith))) ∙ z))
+      go (inr o) = inr (λ z. o (sym (unsent-same withStrategy x y SNROFFSTSTR g (omega arith) (inl (omega arith, omega arith))) ∙ z))
 
-  offsets-walk : (st : State) (p : ℕ) (es : List Entry) → Begun es (st .cells) → Walks s l Unmet offsets st p es (λ a q fs. Framed fs (a .cells))
-  unfolding offsets passes strategyOfOffsets
+  offsets-walk : (st : State) (p : ℕ) (es : List Entry) → BegunUses es (st .cells) → Walks s l Unmet offsets st p es (λ a q fs. Framed fs (a .cells))
+  unfolding offsets passes withStrategy
   offsets-walk st p es c =
       walks-next s l Unmet _ _ st p es {M = λ a q fs. Framed fs (a .cells)} tt
       (walked-when s l Unmet _ _ st p es
       (λ _. walks-next s l Unmet _ _ st p es {M = λ a q fs. Framed fs (a .cells)} tt
-      (element-by s l (leavesUnsent strategyOfOffsets) frmcsnroffst _ 6 _ refl st p es (c .within)
-      (λ a q fs g h k. record { within = g .within; leaks = leaks-stay strategyOfOffsets (st .cells) (a .cells) es fs g h (c .leaks); sent = inl (inl k) }))
-      (λ a q fs d. whole s l (leavesUnsent strategyOfOffsets) _ refl a q fs (d .within) (λ b r gs g h. framed-stays (a .cells) (b .cells) fs gs g h d)))
-      (λ e. record { within = c .within; leaks = c .leaks; sent = inr (is-false SNROFFSTSTR 0 (st .cells) e) }))
-      (λ a q fs d. whole s l (leavesUnsent strategyOfOffsets) _ refl a q fs (d .within) (λ b r gs g h. framed-stays (a .cells) (b .cells) fs gs g h d))
+      (element-by s l (leavesUnsent withStrategy) frmcsnroffst _ 6 _ refl st p es (c .begun .within)
+      (λ a q fs g h k. record {
+        within = g .within;
+        leaks = leaks-stay withStrategy (st .cells) (a .cells) es fs g h (c .begun .leaks);
+        uses-now = uses-stay (st .cells) (a .cells) (strategy-uses (st .cells) (a .cells) g) (c .uses-now);
+        sent = inl (inl k);
+      }))
+      (λ a q fs d. whole s l (leavesUnsent withStrategy) _ refl a q fs (d .within) (λ b r gs g h. framed-stays (a .cells) (b .cells) fs gs g h d)))
+      (λ e. record { within = c .begun .within; leaks = c .begun .leaks; uses-now = c .uses-now; sent = inr (is-false SNROFFSTSTR 0 (st .cells) e) }))
+      (λ a q fs d. whole s l (leavesUnsent withStrategy) _ refl a q fs (d .within) (λ b r gs g h. framed-stays (a .cells) (b .cells) fs gs g h d))
 
-  -- between the flags and the offsets
+  -- between the uses of coupling and the offsets
   middle : List Block
-  middle = coupling ∷ strategies ∷ hybrid ∷ []
+  middle = strategies ∷ hybrid ∷ []
 
-  pass-middle : allPass [] middle ≡ true
-  unfolding allPass middle passes coupling strategies hybrid
+  pass-middle : allPass uses middle ≡ true
+  unfolding allPass middle passes uses strategies hybrid
   pass-middle = refl
 
-  pass-bsi : passes (leavesUnsent []) bsi ≡ true
-  unfolding passes mixdef3 mixing-metadata informational-metadata bsi
+  pass-bsi : passes (leavesUnsent unset) bsi ≡ true
+  unfolding passes unset mixdef3 mixing-metadata informational-metadata bsi
   pass-bsi = refl
 
-  frame-walk : (st : State) (p : ℕ) (es : List Entry) → Within (st .cells) → Walks s l Unmet audfrm st p es (λ a q fs. Framed fs (a .cells))
+  frame-walk : (st : State) (p : ℕ) (es : List Entry) → Within (st .cells) → Unset (st .cells) → Walks s l Unmet audfrm st p es (λ a q fs. Framed fs (a .cells))
   unfolding audfrm joined middle
-  frame-walk st p es w =
-      walks-append s l Unmet flags _ st p es (flags-walk st p es w)
-      (λ a q fs c. pass [] Begun (λ _ _ i. i .within) begun-stays middle offsets pass-middle a q fs c (λ b r gs d. offsets-walk b r gs d))
+  frame-walk st p es w u =
+      walks-append s l Unmet flags _ st p es (flags-walk st p es w u)
+      (λ a q fs c. walks-append s l Unmet coupling _ a q fs (uses-walk s l a q fs (c .0 .within) (c .1))
+      (λ b r gs d. pass uses BegunUses (λ _ _ i. i .begun .within) begun-uses-stay middle offsets pass-middle b r gs
+      (record { begun = begun-stays [] (a .cells) (b .cells) fs gs (d .changed) (d .grows) (c .0); uses-now = d .uses-now })
+      (λ e v hs f. offsets-walk e v hs f)))
 
-  body-walk : (st : State) (p : ℕ) (es : List Entry) → Within (st .cells) → Walks s l Unmet body st p es Anything
+  body-walk : (st : State) (p : ℕ) (es : List Entry) → Within (st .cells) → Unset (st .cells) → Walks s l Unmet body st p es Anything
   unfolding body
-  body-walk st p es w =
-      walks-append s l Unmet bsi _ st p es (whole s l (leavesUnsent []) bsi pass-bsi st p es w (λ a q fs g h. g .within))
-      (λ a q fs w. walks-append s l Unmet audfrm _ a q fs (frame-walk a q fs w) (λ b r gs c. blocks-walk b r gs c))
+  body-walk st p es w u =
+      walks-append s l Unmet bsi _ st p es {M = λ a q fs. Within (a .cells) × Unset (a .cells)}
+      (whole s l (leavesUnsent unset) bsi pass-bsi st p es w (λ a q fs g h. (g .within, unset-stays (st .cells) (a .cells) g u)))
+      (λ a q fs w. walks-append s l Unmet audfrm _ a q fs (frame-walk a q fs (w .0) (w .1)) (λ b r gs c. blocks-walk b r gs c))
 
 -- whatever the buffer: wherever the reading of its body comes, the tests that were left out are not met
 pub unmet : NoneMet
-unmet s h e = body-walk s _ h _ _ (header-within s h e) .along
+unmet s h e = body-walk s _ h _ _ (header-within s h e) (header-unset s 48 h e) .along

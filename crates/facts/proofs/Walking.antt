@@ -244,12 +244,12 @@ module _ (s : List ℕ) (l : ℕ) (Q : Item → Point) where
   unfolding Inside item
   walked-fill k n x y a st p es {R} h = record { inside = tt; ends = then-done s l (state (filled n k (x + y * heldOf a (st .cells)) (st .cells)) (st .bins)) p es R h }
 
-  pub walked-derive : (k : ℕ) (st : State) (p : ℕ) (es : List Entry) {R : Point} → R (derived k st .st) p es → Walked (derive k) st p es R
+  pub walked-derive : (k : ℕ) (st : State) (p : ℕ) (es : List Entry) {R : Point} → (eqb (derived k st .number) 0 ≡ true → R (derived k st .st) p es) → Walked (derive k) st p es R
   unfolding Inside item
   walked-derive k st p es {R} h = record {
     inside = tt;
     ends = then-if s l (eqb (derived k st .number) 0) (done (derived k st .st)) (refuse (derived k st .number)) p es R
-        (λ e. then-done s l (derived k st .st) p es R h) (λ e. then-refuse s l (derived k st .number) p es R);
+        (λ e. then-done s l (derived k st .st) p es R (h e)) (λ e. then-refuse s l (derived k st .number) p es R);
   }
 
   pub walked-each : (k : ℕ) (i : Sum) (n : Count) (b : Block) (st : State) (p : ℕ) (es : List Entry) (I : ℕ → Point) {R : Point}

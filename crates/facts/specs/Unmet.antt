@@ -1,14 +1,17 @@
--- The tests of the reference that no input meets, where it makes them: at the test of the coupling sub-bands, and at the allocation of a block.
+-- The tests of the reference that no input meets, where it makes them: at the test of the coupling sub-bands, at a set of exponents, and at the allocation of a
+-- block.
 -- Proved in proofs/Unmet.antt.
 use mathlib.Core.Path.{_≡_}
 use mathlib.Core.List.{List}
 use mathlib.Core.Logic.{_⊎_}
-use Prim.Native.Nat.{ℕ, _+_, _*_, _≤_, _<_}
+use Prim.Native.Nat.{ℕ, _+_, _*_, _%_, _≤_, _<_}
 use Rattle.names.specs.Names.{cplfleak, cplsleak, csnroffst, frmcsnroffst}
 use Rattle.reading.specs.Run.{Entry, accepted, run}
-use Rattle.cells.specs.Cells.{State, cellOf}
+use Rattle.exponents.specs.Exponents.{sizeOf, groupsOf, firstOf}
+use Rattle.cells.specs.Cells.{State, cellOf, sumOf}
 use Rattle.cells.specs.Names.{CPL-SUBND-END, CPLEND, CPLINU, CPLSTRT, ENDMANT, HELDEND, HELDSTRT, LFEON, NFCHANS}
 use Rattle.derivations.specs.Derivations.{Allocation}
+use Rattle.derivations.specs.Sets.{strategyOf, startOf, endOf}
 use Rattle.rows.specs.Syntax.{Item, element, elements, span, mantissas, exponents, when, each, reject, reject-at, put, fill, derive, meaning}
 use Rattle.annex.specs.Annex.{header, body}
 use Rattle.annex.specs.Frame.{start, bytesOf}
@@ -39,13 +42,21 @@ pub record Ready (es : List Entry) (m : List ℕ) : Type 0 where
   pub offsets : Offsets es
   pub leaks : cellOf m CPLINU ≡ 1 → Leaks es
 
+-- a set of exponents that is read: it is of one of the seven slots, its strategy is D15, D25 or D45, its range has a bin and ends by bin 253, and its
+-- groups reach the end
+pub record SetFits (m : List ℕ) (slot : ℕ) : Type 0 where
+  pub among : slot < 7
+  pub strategy : (1 ≤ strategyOf m slot) × (strategyOf m slot ≤ 3)
+  pub range : (startOf m slot < endOf m slot) × (endOf m slot ≤ 253)
+  pub reaches : endOf m slot ≤ firstOf slot (startOf m slot) + 3 * sizeOf (strategyOf m slot) * groupsOf slot (strategyOf m slot) (startOf m slot) (endOf m slot)
+
 -- at the rejection 22 cplbegf + ncplsubnd, which is cplendf + 3, is at most 18: the upper half of that test is not met
 abbrev pub Unmet : Item → Point
 Unmet (element name i w a) st p es = Unit {0}
 Unmet (elements name i w a k f n) st p es = Unit {0}
 Unmet (span name k) st p es = Unit {0}
 Unmet (mantissas name a) st p es = Unit {0}
-Unmet (exponents s name i) st p es = Unit {0}
+Unmet (exponents s name i) st p es = SetFits (st .cells) (sumOf s (st .cells) % 256)
 Unmet (when c b) st p es = Unit {0}
 Unmet (each k i n b) st p es = Unit {0}
 Unmet (reject c n) st p es = n ≡ 22 → cellOf (st .cells) CPL-SUBND-END ≤ 18
