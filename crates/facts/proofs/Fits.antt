@@ -8,7 +8,7 @@ use native.Mathlib.Omega.{arith}
 use lib.Dec.{eqb, ltb}
 use borrow.Author.Tests.{eqb-true, eqb-false, ltb-true, not-true}
 use Rattle.reading.specs.Run.{Entry}
-use Rattle.slots.specs.Held.{Bins}
+use Rattle.slots.specs.Held.{Bins, bins}
 use Rattle.cells.specs.Cells.{State, state, Addr, cellOf, putIn, stored, placeOf, heldOf}
 use Rattle.rows.specs.Syntax.{Count, Fixed, Held, Value, Here, Let, Less, Plus, Minus, Item, Block, element, elements, span, mantissas, exponents, when, each, reject, reject-at, put, fill, derive, end, _⨾_, countOf, amountOf, filled}
 use Rattle.facts.specs.Along.{Point}
@@ -254,7 +254,7 @@ module _ (byBounds : Item → Bool) where
       fits-item permits (mantissas name a) ks h st p es w f =
           walked-mantissas s l Q name a st p es
           (λ v q fs g. record { reached = next-put permits a v 0 65535 ks st es fs q w f h (omega arith) (omega arith) g .reached; knows = tt })
-      fits-item permits (exponents x name i) ks h st p es w f = walked-exponents s l Q x name i st p es (λ b q fs g. next-same permits ks st b es fs q w f g)
+      fits-item permits (exponents x name i) ks h st p es w f = walked-exponents s l Q x name i st p es (λ e q fs g. next-same permits ks st (bins e (st .bins .baps)) es fs q w f g)
       fits-item permits (when c b) ks h st p es w f =
           walked-when s l Q c b st p es
           (λ e. walks-map s l Q (λ a q fs d. record { reached = d; knows = tt }) (fits-block permits b ks h st p es w f))

@@ -14,3 +14,4 @@ pub mod Bandwidth
 pub mod Uses
 pub mod Sent
 pub mod Unmet
+pub mod Pointed

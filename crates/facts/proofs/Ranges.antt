@@ -96,7 +96,7 @@ module _ (m : List ℕ) (w : Within m) where
       record {
         among = omega arith;
         strategy = rw (c, f) (omega arith, omega arith);
-        range = rw (c, f) (omega (arith, e .some), e .within);
+        range = rw (c, f) (omega (arith, e .some), omega (arith, e .within));
         reaches = rw (c, f) r;
       }
 

@@ -12,7 +12,7 @@ use Rattle.bits.proofs.BitLaws.{bitsAt-lt}
 use Rattle.reading.specs.Tree.{Part, Tree, done, refuse, ahead, _>>=_}
 use Rattle.reading.specs.Run.{Entry, region, Result, accepted, refused, Outcome, out, cons, andThen, after, skim, run}
 use Rattle.reading.proofs.Runs.{run-bind}
-use Rattle.slots.specs.Held.{Bins, bins}
+use Rattle.slots.specs.Held.{bins}
 use Rattle.exponents.specs.Set.{setOf}
 use Rattle.cells.specs.Cells.{State, state, Addr, Sum, cellOf, stored, placeOf, heldOf, sumOf, partOf}
 use Rattle.derivations.specs.Derivations.{derived}
@@ -80,7 +80,7 @@ module _ (s : List ℕ) (l : ℕ) where
 
   -- a tree that gives exponents, which go into the state beside the pointers
   then-bins : (t : Tree (List ℕ)) (m baps : List ℕ) (p : ℕ) (es : List Entry) (R : Point)
-      → ((b : Bins) (q : ℕ) (fs : List Entry) → Grows es fs → R (state m b) q fs) → Then s l (t >>= (λ e. done (state m (bins e baps)))) p es R
+      → ((e : List ℕ) (q : ℕ) (fs : List Entry) → Grows es fs → R (state m (bins e baps)) q fs) → Then s l (t >>= (λ e. done (state m (bins e baps)))) p es R
   unfolding after run
   then-bins t m baps p es R h = rw (run-bind t (λ e. done (state m (bins e baps))) s p l) (go (O .result))
     where
@@ -92,7 +92,7 @@ module _ (s : List ℕ) (l : ℕ) where
 
       go : (r : Result (List ℕ)) (a : State) → andThen r (O .place) (O .records) F .result ≡ accepted a
           → R a (andThen r (O .place) (O .records) F .place) (es ++ andThen r (O .place) (O .records) F .records)
-      go (accepted e) a k = let z : state m (bins e baps) ≡ a = cc in subst (λ x. R x (O .place) (es ++ (O .records ++ []))) z (h (bins e baps) (O .place) _ (grows-append es _))
+      go (accepted e) a k = let z : state m (bins e baps) ≡ a = cc in subst (λ x. R x (O .place) (es ++ (O .records ++ []))) z (h e (O .place) _ (grows-append es _))
       go (refused n) a k = absurd (let z : _≡_ {A = ℕ} 0 1 = cc in omega arith)
 
   then-cons : (c : Bool) (x : Entry) (w : ℕ) (st : State) (p : ℕ) (es : List Entry) (R : Point) (a : State)
@@ -205,7 +205,7 @@ module _ (s : List ℕ) (l : ℕ) (Q : Item → Point) where
       go (refused n) c e = absurd (let z : _≡_ {A = ℕ} 0 1 = cc in omega arith)
 
   pub walked-exponents : (x : Sum) (name : ℕ) (i : Sum) (st : State) (p : ℕ) (es : List Entry) {R : Point}
-      → ((b : Bins) (q : ℕ) (fs : List Entry) → Grows es fs → R (state (st .cells) b) q fs) → Walked (exponents x name i) st p es R
+      → ((e : List ℕ) (q : ℕ) (fs : List Entry) → Grows es fs → R (state (st .cells) (bins e (st .bins .baps))) q fs) → Walked (exponents x name i) st p es R
   unfolding Inside item exponentsOf
   walked-exponents x name i st p es {R} h = record { inside = tt; ends = then-bins s l (setOf _ _ _ _ _ _ _) (st .cells) (st .bins .baps) p es R h }
 

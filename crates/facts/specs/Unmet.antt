@@ -1,17 +1,21 @@
--- The tests of the reference that no input meets, where it makes them: at the test of the coupling sub-bands, at a set of exponents, and at the allocation of a
--- block.
--- Proved in proofs/Unmet.antt.
+-- The tests of the reference that no input meets, where it makes them: at the test of the coupling sub-bands, at a set of exponents, at the allocation of a
+-- block, and at its mantissas.
+-- Proved in proofs/Unmet.antt and proofs/Pointed.antt.
 use mathlib.Core.Path.{_≡_}
+use mathlib.Core.Bool.{Bool, true, false, cond}
 use mathlib.Core.List.{List}
 use mathlib.Core.Logic.{_⊎_}
 use Prim.Native.Nat.{ℕ, _+_, _*_, _%_, _≤_, _<_}
+use lib.ListN.{getD}
 use Rattle.names.specs.Names.{cplfleak, cplsleak, csnroffst, frmcsnroffst}
 use Rattle.reading.specs.Run.{Entry, accepted, run}
+use Rattle.slots.specs.Slots.{requestedOf, pointer}
 use Rattle.exponents.specs.Exponents.{sizeOf, groupsOf, firstOf}
-use Rattle.cells.specs.Cells.{State, cellOf, sumOf}
+use Rattle.cells.specs.Cells.{State, Addr, cellOf, sumOf}
 use Rattle.cells.specs.Names.{CPL-SUBND-END, CPLEND, CPLINU, CPLSTRT, ENDMANT, HELDEND, HELDSTRT, LFEON, NFCHANS}
 use Rattle.derivations.specs.Derivations.{Allocation}
 use Rattle.derivations.specs.Sets.{strategyOf, startOf, endOf}
+use Rattle.derivations.specs.Shapes.{shapeOf}
 use Rattle.rows.specs.Syntax.{Item, element, elements, span, mantissas, exponents, when, each, reject, reject-at, put, fill, derive, meaning}
 use Rattle.annex.specs.Annex.{header, body}
 use Rattle.annex.specs.Frame.{start, bytesOf}
@@ -65,8 +69,23 @@ Unmet (put a v) st p es = Unit {0}
 Unmet (fill k n x y a) st p es = Unit {0}
 Unmet (derive k) st p es = k ≡ Allocation → Ready es (st .cells)
 
+-- at the mantissas of a block: the pointers of the slots that are asked for are at most 15, in a slot of the adaptive hybrid transform at most 19
+abbrev pub mostPointer : Bool → ℕ
+mostPointer aht = cond aht 19 15
+
+abbrev pub Pointers : List ℕ → List ℕ → Type 0
+Pointers m baps = (slot bin : ℕ) → slot < 7 → bin < 256 → requestedOf (shapeOf m) slot ≡ true → pointer baps slot bin ≤ mostPointer (getD (shapeOf m .ahtinu) slot false)
+
+abbrev pub Pointed : Item → Point
+Pointed i st p es = (name : ℕ) (a : Addr) → i ≡ mantissas name a → Pointers (st .cells) (st .bins .baps)
+
 -- whatever the buffer, wherever the reading of its body comes
 abbrev pub NoneMet : Type 0
 NoneMet =
     (s : List ℕ) (h : State) → run (meaning header start) s 0 48 .result ≡ accepted h
     → Along s (8 * bytesOf h) Unmet body h (run (meaning header start) s 0 48 .place) (run (meaning header start) s 0 48 .records)
+
+abbrev pub AllPointed : Type 0
+AllPointed =
+    (s : List ℕ) (h : State) → run (meaning header start) s 0 48 .result ≡ accepted h
+    → Along s (8 * bytesOf h) Pointed body h (run (meaning header start) s 0 48 .place) (run (meaning header start) s 0 48 .records)
