@@ -37,7 +37,7 @@ use Rattle.allocation.specs.declared.AllocState.{AllocState}
 use Rattle.allocation.specs.declared.Segments.{Segments}
 use Rattle.allocation.specs.declared.memo.Source.{Source}
 use Rattle.slots.proofs.Tests.{both}
-use Rattle.allocation.proofs.StateLaws.{allocation-alike, allocation-length, part-width, part-length, pointers-are, pointed-length, pointed-at, pointed-apart, pointed-there, slot-asked, slot-not-asked}
+use Rattle.allocation.proofs.StateLaws.{allocation-alike, part-width, part-length, pointers-are, pointed-length, pointed-at, pointed-apart, pointed-there, slot-asked, slot-not-asked}
 
 -- eight numbers
 each-of-eight : (P : ℕ → Type 0) → P 0 → P 1 → P 2 → P 3 → P 4 → P 5 → P 6 → P 7 → (k : ℕ) → k < 8 → P k
@@ -86,17 +86,9 @@ pub word-packs : (a b c d e f g h a′ b′ c′ d′ e′ f′ g′ h′ : ℕ)
 word-packs a b c d e f g h a′ b′ c′ d′ e′ f′ g′ h′ ea eb ec ed ee ef eg eh la lb lc ld le lf lg lh =
     packs _ a b c d e f g h (omega arith) (omega arith) (omega arith) (omega arith) (omega arith) (omega arith) (omega arith) (omega arith) (omega arith)
 
--- eight elements of a list
-pub packs-list : (xs : List ℕ) (w a b c d e f g h : ℕ) → a ≡ getD xs 0 0 → b ≡ getD xs 1 0 → c ≡ getD xs 2 0 → d ≡ getD xs 3 0 → e ≡ getD xs 4 0 → f ≡ getD xs 5 0 → g ≡ getD xs 6 0 → h ≡ getD xs 7 0
-    → Packs (a ∷ b ∷ c ∷ d ∷ e ∷ f ∷ g ∷ h ∷ []) w → Packs xs w
-packs-list xs w a b c d e f g h ea eb ec ed ee ef eg eh p = record { bytes = λ k l. p .bytes k l ∙ each-of-eight (λ k. getD (a ∷ b ∷ c ∷ d ∷ e ∷ f ∷ g ∷ h ∷ []) k 0 ≡ getD xs k 0) ea eb ec ed ee ef eg eh k l }
-
 packs-is : (xs : List ℕ) (w : ℕ) → length xs ≡ 8 → Packs xs w → eightIn w ≡ xs
 packs-is xs w n p = ext-getD 0 (eightIn w) xs (sym n) (λ k l. each-of-eight (λ k. getD (eightIn w) k 0 ≡ getD xs k 0)
     (p .bytes 0 (omega arith)) (p .bytes 1 (omega arith)) (p .bytes 2 (omega arith)) (p .bytes 3 (omega arith)) (p .bytes 4 (omega arith)) (p .bytes 5 (omega arith)) (p .bytes 6 (omega arith)) (p .bytes 7 (omega arith)) k l)
-
-deltas-is : (n n′ : ℕ) (o l b o′ l′ b′ : List ℕ) → n ≡ n′ → o ≡ o′ → l ≡ l′ → b ≡ b′ → _≡_ {A = Deltas} (record { n = n; offset = o; len = l; ba = b }) (record { n = n′; offset = o′; len = l′; ba = b′ })
-deltas-is n n′ o l b o′ l′ b′ p q r s = rw (p, q, r, s)
 
 few : (t : Bool) (x : ℕ) → cond t (min x 8) 0 ≤ 8
 few true x = omega arith
@@ -107,8 +99,8 @@ leak-low true f s g h = (g, h)
 leak-low false f s g h = (omega arith, omega arith)
 
 by-length : (slot : ℕ) (s : Source) (x : List ℕ) → length (allocationBy slot s x) ≡ 256
-unfolding allocationBy
-by-length slot s x = allocation-length (kindBy (s .own)) x (channelBy (s .own)) (paramsBy (s .common)) (leakBy slot (s .common)) (deltasBy slot s)
+unfolding allocationBy allocation
+by-length slot s x = refl
 
 -- the word of what all slots have in common
 module _ (q : Codes) (st : AllocState) (fscod w : ℕ) (p : Packs (q .sdcycod ∷ q .fdcycod ∷ q .sgaincod ∷ q .dbpbcod ∷ q .floorcod ∷ fscod ∷ st .cplfleak ∷ st .cplsleak ∷ []) w) where
@@ -139,32 +131,32 @@ end-is false x e h q = omega arith
 never : (t u : Bool) → t ≡ u → t ≡ true → u ≡ false → ⊥
 never t u e f g = let z : _≡_ {A = Bool} true false = sym f ∙ e ∙ g in let y : _≡_ {A = ℕ} 0 1 = cc in omega arith
 
-pub owned : (st : AllocState) (shape : Shape) (n : List ℕ) (silent : Bool) (slot w m k a b e : ℕ) (r : Range) (t asked : Bool) → silent ≡ silentOf st shape → asked ≡ requestedOf shape slot → asked ≡ true
-    → m ≡ cond (ltb slot 6) (getD n slot 0) 0 → t ≡ getD (shape .ahtinu) slot false → k ≡ cond t 2 1 → r ≡ rangeOf shape slot → r .end ≤ 253 → a ≡ r .start % 256 → b ≡ r .start / 256 → e ≡ cond silent 0 (r .end % 256)
-    → Packs (m ∷ k ∷ a ∷ b ∷ e ∷ getD (st .fgaincod) slot 0 ∷ st .csnroffst ∷ getD (st .fsnroffst) slot 0 ∷ []) w → Owned w st shape n slot
+pub owned : (st : AllocState) (shape : Shape) (silent : Bool) (slot w n k a b e : ℕ) (r : Range) (t asked : Bool) → silent ≡ silentOf st shape → asked ≡ requestedOf shape slot → asked ≡ true
+    → t ≡ getD (shape .ahtinu) slot false → k ≡ cond t 2 1 → r ≡ rangeOf shape slot → r .end ≤ 253 → a ≡ r .start % 256 → b ≡ r .start / 256 → e ≡ cond silent 0 (r .end % 256)
+    → Packs (n ∷ k ∷ a ∷ b ∷ e ∷ getD (st .fgaincod) slot 0 ∷ st .csnroffst ∷ getD (st .fsnroffst) slot 0 ∷ []) w → Owned w st shape n slot
 unfolding kindOf channelOf
-owned st shape n silent slot w m k a b e r t asked es ea et em eh ek er he es′ eb ee p =
+owned st shape silent slot w n k a b e r t asked es ea et eh ek er he es′ eb ee p =
     let kinds = kind-is t (byteOf w 1) (p .bytes 1 (omega arith) ∙ ek) in
     let starts : startBy w ≡ r .start = let x : byteOf w 2 ≡ a = p .bytes 2 (omega arith) in let y : byteOf w 3 ≡ b = p .bytes 3 (omega arith) in omega arith in
     let ends = end-is silent (r .end) (byteOf w 4) he (p .bytes 4 (omega arith) ∙ ee) in
     record {
       none = λ g. absurd (never asked (requestedOf shape slot) ea et g);
       some = λ g. made w (kinds .1);
-      many = λ g. p .bytes 0 (omega arith) ∙ em;
+      many = λ g. p .bytes 0 (omega arith);
       kind = λ g. kinds .0 ∙ ap (λ x. cond x Hebap Bap) eh;
       channel = λ g. rw (starts, ends, p .bytes 5 (omega arith), p .bytes 6 (omega arith), p .bytes 7 (omega arith), er, es);
     }
 
-pub not-owned : (st : AllocState) (shape : Shape) (n : List ℕ) (slot : ℕ) (t : Bool) → t ≡ requestedOf shape slot → t ≡ false → Owned 0 st shape n slot
+pub not-owned : (st : AllocState) (shape : Shape) (n slot : ℕ) (t : Bool) → t ≡ requestedOf shape slot → t ≡ false → Owned 0 st shape n slot
 not-owned st shape n slot t e f =
     let z : requestedOf shape slot ≡ true → ⊥ = λ g. never (requestedOf shape slot) t (sym e) g f in
     record { none = λ g. refl; some = λ g. absurd (z g); many = λ g. absurd (z g); kind = λ g. absurd (z g); channel = λ g. absurd (z g) }
 
-pub owns : (st : AllocState) (shape : Shape) (n : List ℕ) (a b c d e f g : ℕ)
-    → Owned a st shape n 0 → Owned b st shape n 1 → Owned c st shape n 2 → Owned d st shape n 3 → Owned e st shape n 4 → Owned f st shape n 5 → Owned g st shape n 6 → Owns (a ∷ b ∷ c ∷ d ∷ e ∷ f ∷ g ∷ []) st shape n
+pub owns : (st : AllocState) (shape : Shape) (n : List ℕ) (a b c d e f g : ℕ) → Owned a st shape (getD n 0 0) 0 → Owned b st shape (getD n 1 0) 1 → Owned c st shape (getD n 2 0) 2
+    → Owned d st shape (getD n 3 0) 3 → Owned e st shape (getD n 4 0) 4 → Owned f st shape (getD n 5 0) 5 → Owned g st shape 0 6 → Owns (a ∷ b ∷ c ∷ d ∷ e ∷ f ∷ g ∷ []) st shape n
 owns st shape n a b c d e f g oa ob oc od oe of og = record {
   size = refl;
-  at = λ k l. each-of-eight (λ k. k < 7 → Owned (getD (a ∷ b ∷ c ∷ d ∷ e ∷ f ∷ g ∷ []) k 0) st shape n k)
+  at = λ k l. each-of-eight (λ k. k < 7 → Owned (getD (a ∷ b ∷ c ∷ d ∷ e ∷ f ∷ g ∷ []) k 0) st shape (cond (ltb k 6) (getD n k 0) 0) k)
       (λ l. oa) (λ l. ob) (λ l. oc) (λ l. od) (λ l. oe) (λ l. of) (λ l. og) (λ l. absurd (let z : ⊥ = omega arith in z)) k (omega arith) l;
 }
 
@@ -178,17 +170,10 @@ module _ (own common : ℕ) (offset len ba : List ℕ) (slot : ℕ) where
   unfolding deltasOf
   says-none m e h = record { own = refl; common = refl; segments = record { many = refl; rest = λ q. absurd (q (sym e ∙ h)) } }
 
-  pub says-all : (x y z : ℕ) (xs ys zs : List ℕ) → xs ≡ eightOf offset (8 * slot) → ys ≡ eightOf len (8 * slot) → zs ≡ eightOf ba (8 * slot) → Packs xs x → Packs ys y → Packs zs z
+  pub says-all : (x y z : ℕ) → Packs (eightOf offset (8 * slot)) x → Packs (eightOf len (8 * slot)) y → Packs (eightOf ba (8 * slot)) z
       → Says slot (record { own = own; common = common; offset = x; len = y; ba = z }) own common (deltasOf own offset len ba slot)
   unfolding deltasOf
-  says-all x y z xs ys zs ex ey ez px py pz = record {
-    own = refl;
-    common = refl;
-    segments = record {
-      many = refl;
-      rest = λ q. deltas-is _ _ _ _ _ _ _ _ refl (packs-is _ x refl (rw (← ex) px)) (packs-is _ y refl (rw (← ey) py)) (packs-is _ z refl (rw (← ez) pz));
-    };
-  }
+  says-all x y z px py pz = record { own = refl; common = refl; segments = record { many = refl; rest = λ q. rw (packs-is _ x refl px, packs-is _ y refl py, packs-is _ z refl pz) } }
 
 -- whether a slot is kept
 source-is : (s : Source) (a b c d e : ℕ) → a ≡ s .own → b ≡ s .common → c ≡ s .offset → d ≡ s .len → e ≡ s .ba
@@ -509,7 +494,7 @@ module _ (q : Codes) (st : AllocState) (shape : Shape) (fscod common : ℕ) (n o
       go true e = rw e (record { many = refl; rest = λ h. refl })
       go false e = record { many = refl; rest = λ h. absurd (h refl) }
 
-  point-is : (baps : List ℕ) (slot w : ℕ) → Owned w st shape n slot → pointBy common offset len ba exps w baps slot ≡ pointSlot st (paramsFor q fscod) shape d exps baps slot
+  point-is : (baps : List ℕ) (slot w : ℕ) → Owned w st shape (cond (ltb slot 6) (getD n slot 0) 0) slot → pointBy common offset len ba exps w baps slot ≡ pointSlot st (paramsFor q fscod) shape d exps baps slot
   unfolding pointBy
   point-is baps slot w o = go (requestedOf shape slot) refl
     where

@@ -28,15 +28,6 @@ use Rattle.allocation.specs.declared.Codes.{Codes}
 use Rattle.allocation.specs.declared.Parameters.{Parameters}
 use Rattle.allocation.specs.declared.Parameters.the-variants.{NeverSent, Sent}
 
--- what allocation asks of them
-pub exps-low : (exps : List ℕ) (slot : ℕ) → Held exps → slot < 7 → (lo hi : ℕ) → hi ≤ 253 → Exponents (expsIn exps slot) lo hi
-exps-low exps slot held h lo hi k =
-    let m : length (drop (256 * slot) exps) ≡ length exps - 256 * slot = length-drop (256 * slot) exps in
-    record {
-      size = length-take-le 256 (drop (256 * slot) exps) (omega (arith, held .size));
-      low = λ j a b. rw (getD-take 256 (drop (256 * slot) exps) j 0 (let z : j < 256 = omega arith in z), getD-drop (256 * slot) exps j 0) (held .low (256 * slot + j) (omega arith));
-    }
-
 -- the part of a list that a slot has
 pub part-width : (slot : ℕ) → 256 * slot + 256 - 256 * slot ≡ 256
 part-width slot = omega arith
@@ -46,9 +37,12 @@ part-length xs slot e h =
     let m : length (drop (256 * slot) xs) ≡ length xs - 256 * slot = length-drop (256 * slot) xs in
     length-take-le 256 (drop (256 * slot) xs) (omega arith)
 
--- as the code lends it
+-- as the code lends it, and what allocation asks of the exponents
 pub exps-part : (exps : List ℕ) (slot : ℕ) → Held exps → slot < 7 → (lo hi : ℕ) → hi ≤ 253 → Exponents (take (256 * slot + 256 - 256 * slot) (drop (256 * slot) exps)) lo hi
-exps-part exps slot held h lo hi k = rw (part-width slot) (exps-low exps slot held h lo hi k)
+exps-part exps slot held h lo hi k = rw (part-width slot) (record {
+  size = part-length exps slot (held .size) h;
+  low = λ j a b. rw (getD-take 256 (drop (256 * slot) exps) j 0 (let z : j < 256 = omega arith in z), getD-drop (256 * slot) exps j 0) (held .low (256 * slot + j) (omega arith));
+})
 
 pub part-sized : (xs : List ℕ) (slot : ℕ) → length xs ≡ 1792 → slot < 7 → length (take (256 * slot + 256 - 256 * slot) (drop (256 * slot) xs)) ≡ 256
 part-sized xs slot e h = rw (part-width slot) (part-length xs slot e h)
@@ -112,10 +106,6 @@ module _ (baps : List ℕ) (sized : length baps ≡ 1792) (slot : ℕ) (h : slot
           let m = i - 256 * slot in
           let z : i ≡ 256 * slot + m = omega arith in
           rw z (pointed-at m (omega arith) ∙ sym (f m (omega arith)))
-
-pub allocation-length : (k : Pointers) (e : List ℕ) (c : Channel) (p : Params) (l : Leak) (d : Deltas) → length (allocation k e c p l d) ≡ 256
-unfolding allocation
-allocation-length k e c p l d = refl
 
 -- no bins, no pointers but 0
 none-there : (a : Bool) (b x : ℕ) → cond (a && ltb b 0) x 0 ≡ 0

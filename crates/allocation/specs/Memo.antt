@@ -71,16 +71,16 @@ pub record CodedBy (common : ℕ) : Type 0 where
   pub rate : byteOf common 5 < 3
 
 -- a slot's own word says this of it, and is 0 where the slot is not asked for
-pub record Owned (own : ℕ) (st : AllocState) (shape : Shape) (n : List ℕ) (slot : ℕ) : Type 0 where
+pub record Owned (own : ℕ) (st : AllocState) (shape : Shape) (n slot : ℕ) : Type 0 where
   pub none : requestedOf shape slot ≡ false → own ≡ 0
   pub some : requestedOf shape slot ≡ true → 0 < own
-  pub many : requestedOf shape slot ≡ true → byteOf own 0 ≡ cond (ltb slot LFE) (getD n slot 0) 0
+  pub many : requestedOf shape slot ≡ true → byteOf own 0 ≡ n
   pub kind : requestedOf shape slot ≡ true → kindBy own ≡ kindOf shape slot
   pub channel : requestedOf shape slot ≡ true → channelBy own ≡ silenced (silentOf st shape) (channelOf st shape slot)
 
 pub record Owns (own : List ℕ) (st : AllocState) (shape : Shape) (n : List ℕ) : Type 0 where
   pub size : length own ≡ 7
-  pub at : (slot : ℕ) → slot < 7 → Owned (getD own slot 0) st shape n slot
+  pub at : (slot : ℕ) → slot < 7 → Owned (getD own slot 0) st shape (cond (ltb slot LFE) (getD n slot 0) 0) slot
 
 -- as many segments as the word says, of those that are lent
 unfoldable pub deltasOf : ℕ → List ℕ → List ℕ → List ℕ → ℕ → Deltas

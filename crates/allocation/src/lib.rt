@@ -4,7 +4,6 @@ use crate::memo::bytes;
 use crate::memo::kept;
 use crate::memo::note;
 use crate::memo::word;
-use crate::memo::word_of;
 use alloc::Channel;
 use alloc::Deltas;
 use alloc::Leak;
@@ -21,8 +20,8 @@ ghost use mathlib.Core.Path.{_≡_};
 ghost use mathlib.Core.Bool.{_&&_, _||_, not, cond};
 ghost use mathlib.Core.List.{[], _∷_};
 ghost use Prim.Native.Nat.{_+_, _*_, _-_, _/_, _%_, _<_, _≤_, min};
-ghost use lib.Dec.{eqb, ltb};
-ghost use lib.ListN.{length, getD};
+ghost use lib.Dec.{eqb};
+ghost use lib.ListN.{length};
 ghost use Rattle.alloc.specs.Allocation.{tab};
 ghost use Rattle.alloc.specs.Premises.{Lent};
 ghost use Rattle.mantissas.specs.Tally.{shareOf};
@@ -93,12 +92,13 @@ fn index(x: u8) -> usize
     x as usize
 }
 
-fn eight(xs: &[u8; 48], slot: u8) -> [u8; 8]
+// The word of a slot's eight entries.
+fn word_at(xs: &[u8; 48], slot: u8) -> u64
     requires { ⌜ slot < 6 ⌝ }
-    ensures { λ r. ⌜ r ≡ eightOf (now (xs .entry)) (8 * slot) ⌝ }
+    ensures { λ r. ⌜ Packs (eightOf (now (xs .entry)) (8 * slot)) r ⌝ }
 {
     let k = 8 * (slot as usize);
-    [
+    word(
         xs[k],
         xs[k + 1],
         xs[k + 2],
@@ -107,7 +107,7 @@ fn eight(xs: &[u8; 48], slot: u8) -> [u8; 8]
         xs[k + 5],
         xs[k + 6],
         xs[k + 7],
-    ]
+    )
 }
 
 fn no_offset(asked: bool, fsnroffst: u8) -> bool
@@ -136,17 +136,6 @@ fn silent(st: AllocState, shape: Shape) -> bool
     all
 }
 
-// The number of segments that is sent for a slot; none for the LFE channel.
-fn sent(n: &[u8; 6], slot: u8) -> u8
-    ensures { λ r. ⌜ r ≡ cond (ltb slot 6) (getD (now (n .entry)) slot 0) 0 ⌝ }
-{
-    if slot < LFE {
-        let i = slot as usize;
-        return n[i];
-    }
-    0
-}
-
 fn kind_code(hybrid: bool) -> u8
     ensures { λ r. ⌜ r ≡ cond hybrid 2 1 ⌝ }
 {
@@ -172,11 +161,11 @@ fn high(x: u16) -> u8
     (x / 256) as u8
 }
 
-// The word of what a slot has of its own: how many segments there are, the kind, the channel. 0 where its pointers are
+// The word of what a slot has of its own: how many segments were sent, the kind, the channel. 0 where its pointers are
 // not asked for.
-fn own_at(st: AllocState, shape: Shape, n: &[u8; 6], silent: bool, slot: u8) -> u64
+fn own_at(st: AllocState, shape: Shape, silent: bool, many: u8, slot: u8) -> u64
     requires { ⌜ (slot < 7) × (silent ≡ silentOf st shape) ⌝ }
-    ensures { λ r. ⌜ Owned r st shape (now (n .entry)) slot ⌝ }
+    ensures { λ r. ⌜ Owned r st shape many slot ⌝ }
 {
     if !requested(shape, slot) {
         return 0;
@@ -184,7 +173,7 @@ fn own_at(st: AllocState, shape: Shape, n: &[u8; 6], silent: bool, slot: u8) -> 
     let i = slot as usize;
     let r = range_at(shape, slot);
     word(
-        sent(n, slot),
+        many,
         kind_code(hybrid(shape, slot)),
         low(r.start),
         high(r.start),
@@ -195,19 +184,19 @@ fn own_at(st: AllocState, shape: Shape, n: &[u8; 6], silent: bool, slot: u8) -> 
     )
 }
 
-// The own words of all slots.
+// The own words of all slots. The LFE channel has no segments.
 fn own_words(st: AllocState, shape: Shape, n: &[u8; 6]) -> [u64; 7]
     ensures { λ r. ⌜ Owns r st shape (now (n .entry)) ⌝ }
 {
     let silent = silent(st, shape);
     [
-        own_at(st, shape, n, silent, 0),
-        own_at(st, shape, n, silent, 1),
-        own_at(st, shape, n, silent, 2),
-        own_at(st, shape, n, silent, 3),
-        own_at(st, shape, n, silent, 4),
-        own_at(st, shape, n, silent, CPL),
-        own_at(st, shape, n, silent, LFE),
+        own_at(st, shape, silent, n[0], 0),
+        own_at(st, shape, silent, n[1], 1),
+        own_at(st, shape, silent, n[2], 2),
+        own_at(st, shape, silent, n[3], 3),
+        own_at(st, shape, silent, n[4], 4),
+        own_at(st, shape, silent, n[5], CPL),
+        own_at(st, shape, silent, 0, LFE),
     ]
 }
 
@@ -261,9 +250,9 @@ fn source_of(
     Source {
         own: own,
         common: common,
-        offset: word_of(eight(offset, slot)),
-        len: word_of(eight(len, slot)),
-        ba: word_of(eight(ba, slot)),
+        offset: word_at(offset, slot),
+        len: word_at(len, slot),
+        ba: word_at(ba, slot),
     }
 }
 

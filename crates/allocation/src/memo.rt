@@ -37,12 +37,6 @@ pub fn word(a: u8, b: u8, c: u8, d: u8, e: u8, f: u8, g: u8, h: u8) -> u64
     low + 4294967296 * high
 }
 
-pub fn word_of(a: [u8; 8]) -> u64
-    ensures { λ r. ⌜ Packs a r ⌝ }
-{
-    word(a[0], a[1], a[2], a[3], a[4], a[5], a[6], a[7])
-}
-
 fn low_byte(w: u64) -> u8
     ensures { λ r. ⌜ r ≡ w % 256 ⌝ }
 {

@@ -12,7 +12,8 @@ use Rattle.reading.specs.Frame.{parse}
 use Rattle.reading.specs.CommonReading.{list}
 use Rattle.cells.specs.Cells.{State}
 use Rattle.annex.specs.Frame.{eac3}
-use Rattle.eac3.specs.Answer.{answered, answerBy, answerOf, countOf}
+use Rattle.bits.specs.declared.BitPlace.{BitPlace}
+use Rattle.eac3.specs.Answer.{answered, placeAt, answerBy, answerOf}
 use Rattle.eac3.specs.declared.answer.Answer.{Answer}
 use Rattle.eac3.specs.declared.answer.Verdict.the-variants.{Accepted, Refused}
 use Rattle.demands.specs.Calls.{Call, recordAt, count, nth, Accepts, Refuses}
@@ -23,13 +24,9 @@ accepts-by : (r : Result State) (p n : ℕ) → answerBy r p n .verdict ≡ Acce
 accepts-by (accepted st) p n e = (st, refl)
 accepts-by (refused k) p n e = absurd (let z : _≡_ {A = ℕ} 0 1 = cc in omega arith)
 
-refuses-by : (r : Result State) (p n k q j : ℕ) → answerBy r p n .verdict ≡ Refused k q j → (r ≡ refused k) × ((p ≡ q) × (n ≡ j))
+refuses-by : (r : Result State) (p n k q j : ℕ) → answerBy r p n .verdict ≡ Refused k (placeAt q) j → (r ≡ refused k) × ((p ≡ q) × (n ≡ j))
 refuses-by (accepted st) p n k q j e = absurd (let z : _≡_ {A = ℕ} 0 1 = cc in omega arith)
-refuses-by (refused i) p n k q j e = (let z : i ≡ k = cc in ap refused z, ((let z : p ≡ q = cc in z), (let z : n ≡ j = cc in z)))
-
-count-by : (r : Result State) (p n : ℕ) → countOf (answerBy r p n) ≡ n
-count-by (accepted st) p n = refl
-count-by (refused k) p n = refl
+refuses-by (refused i) p n k q j e = (let z : i ≡ k = cc in ap refused z, ((let z : placeAt p ≡ placeAt q = cc in ap (λ (x : BitPlace). x .0) z), (let z : n ≡ j = cc in z)))
 
 bytes-by : (r : Result State) (p n : ℕ) → answerBy r p n .verdict ≡ Accepted → answerBy r p n .frame .bytes .0 ≡ p / 8
 bytes-by (accepted st) p n e = refl
@@ -53,7 +50,7 @@ module _ {s : List ℕ} (c : Call s) where
       (h .0, h .1 .0)
 
   pub counts : count c ≡ length (outcome .records)
-  counts = ap countOf is ∙ count-by (outcome .result) (outcome .place) (0 + length (outcome .records)) ∙ zero-add (length (outcome .records))
+  counts = c .called .count ∙ zero-add (length (outcome .records))
 
   pub bytes : Accepts c → c .answer .frame .bytes .0 ≡ outcome .place / 8
   bytes e =

@@ -6,7 +6,7 @@ use lib.IntN.{pos}
 use lib.ListN.{getD}
 use Rattle.reading.specs.Run.{Field}
 use Rattle.reading.specs.Room.{Room}
-use Rattle.eac3.specs.Answer.{Called, countOf}
+use Rattle.eac3.specs.Answer.{Called, placeAt, countOf}
 use Rattle.eac3.specs.declared.answer.Answer.{Answer}
 use Rattle.eac3.specs.declared.answer.Verdict.the-variants.{Accepted, Refused}
 
@@ -40,4 +40,4 @@ module _ {s : List ℕ} where
   Accepts c = c .answer .verdict ≡ Accepted
 
   abbrev pub Refuses : Call s → ℕ → ℕ → ℕ → Type 0
-  Refuses c k p n = c .answer .verdict ≡ Refused k p n
+  Refuses c k p n = c .answer .verdict ≡ Refused k (placeAt p) n
