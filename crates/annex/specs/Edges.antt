@@ -59,6 +59,10 @@ channelEnd m = pos (cellOf m ENDMANT) ∷ []
 abbrev pub sixBlocks : ℕ → List ℤ
 sixBlocks frmsiz = pos (cellOf (blkstrtinfoBy (putIn (putIn (replicate 1024 0) NUMBLKS 6) FRMSIZ frmsiz)) WIDTH) ∷ []
 
+-- an accepted frame of 20 bytes, the shortest that was drawn: one block of one channel
+abbrev pub shortest : List ℕ
+shortest = 0x0B ∷ 0x77 ∷ 0x70 ∷ 0x09 ∷ 0x42 ∷ 0x6D ∷ 0xC0 ∷ 0x04 ∷ 0x60 ∷ 0x00 ∷ 0x01 ∷ 0x3E ∷ 0x7C ∷ 0xF9 ∷ 0xF3 ∷ 0xE7 ∷ 0xD6 ∷ 0x6D ∷ 0x00 ∷ 0x00 ∷ []
+
 unfoldable pub edges : List Edge
 edges =
     answer [] must-be (pos 1 ∷ pos 0 ∷ pos 0 ∷ [])
@@ -67,6 +71,7 @@ edges =
     ∷ answer (0x0B ∷ 0x77 ∷ 0 ∷ 3 ∷ 0xC0 ∷ 0 ∷ []) must-be (pos 4 ∷ pos 32 ∷ pos 4 ∷ [])
     ∷ answer (0x0B ∷ 0x77 ∷ 0 ∷ 2 ∷ 0xC0 ∷ 0 ∷ []) must-be (pos 5 ∷ pos 34 ∷ pos 5 ∷ [])
     ∷ answer (0x0B ∷ 0x77 ∷ 0 ∷ 2 ∷ 0 ∷ 0x80 ∷ []) must-be (pos 8 ∷ pos 45 ∷ pos 9 ∷ [])
+    ∷ answer shortest must-be (pos 0 ∷ pos 160 ∷ pos 45 ∷ [])
     ∷ part (cpl-strategy ⧺ bandwidth) coupled (0 ∷ []) coupling must-be (pos 0 ∷ negsuc 1 ∷ pos 1 ∷ pos 37 ∷ pos 49 ∷ [])
     ∷ part cpl-strategy coupled (8 ∷ []) coupling must-be (pos 22 ∷ [])
     ∷ part bandwidth alone (240 ∷ []) channelEnd must-be (pos 0 ∷ pos 253 ∷ [])
