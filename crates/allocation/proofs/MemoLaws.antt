@@ -1,6 +1,6 @@
 -- Laws of what is kept of an allocation: words and their bytes; a slot is found again, made stale, noted. Assumes nothing.
 use mathlib.Core.Path.{_≡_, refl, ap, sym, subst, _∙_}
-use mathlib.Core.Bool.{Bool, true, false, _&&_, not, cond}
+use mathlib.Core.Bool.{Bool, true, false, _&&_, cond}
 use mathlib.Core.List.{List, [], _∷_, _++_}
 use mathlib.Core.Logic.{by-cases}
 use Prim.Native.Nat.{ℕ, zero, suc, _+_, _-_, _*_, _/_, _%_, _≤_, _<_, min}
@@ -10,7 +10,6 @@ use lib.Dec.{eqb, ltb}
 use lib.ListN.{length, getD, take, drop, set, replicate, length-set, length-replicate, getD-replicate}
 use lib.Seq.{ext-getD, getD-set-same, getD-set-other, getD-take, getD-drop}
 use borrow.Author.Tests.{eqb-true, eq-eqb, ne-eqb, le-ltb, ltb-true, ltb-false}
-use Rattle.tables.specs.BitAllocation.{fastgain}
 use Rattle.tables.proofs.Limits.{fastgain-high}
 use Rattle.alloc.specs.Allocation.{tab, allocation, leakOf, fastOf, slowOf}
 use Rattle.alloc.specs.Premises.{Channelled}
@@ -30,7 +29,7 @@ use Rattle.mantissas.specs.Tally.{aloneOf, countOf, packed, tallyOf, shareOf}
 use Rattle.mantissas.proofs.TallyLaws.{share-at, total-is}
 use Rattle.allocation.proofs.Unmet.{pointer-within}
 use Rattle.allocation.specs.State.{eightOf, segmentsBy, segmentsOf, Alike, silentOf, channelOf, expsIn, pointedOf, pointSlot, pointSlots, kindOf, leakFor, paramsFor}
-use Rattle.allocation.specs.Coded.{Coded, silenced}
+use Rattle.allocation.specs.Coded.{Coded}
 use Rattle.allocation.specs.Memo.{byteOf, eightIn, Packs, kindBy, startBy, endBy, channelBy, paramsBy, leakBy, deltasBy, manyBy, allocationBy, CodedBy, Owned, Owns, deltasOf, Says, sourceAt, Tallies, Memo, staleOf, Kept, Noted, pointBy, pointsBy, Passes}
 use Rattle.allocation.specs.declared.Codes.{Codes}
 use Rattle.allocation.specs.declared.AllocState.{AllocState}
@@ -64,7 +63,7 @@ byte-last : (b : ℕ) → b < 256 → byteOf b 0 ≡ b
 unfolding byteOf
 byte-last b h = omega arith
 
-pub packs : (w a b c d e f g h : ℕ) → a < 256 → b < 256 → c < 256 → d < 256 → e < 256 → f < 256 → g < 256 → h < 256
+packs : (w a b c d e f g h : ℕ) → a < 256 → b < 256 → c < 256 → d < 256 → e < 256 → f < 256 → g < 256 → h < 256
     → w ≡ a + 256 * (b + 256 * (c + 256 * (d + 256 * (e + 256 * (f + 256 * (g + 256 * h)))))) → Packs (a ∷ b ∷ c ∷ d ∷ e ∷ f ∷ g ∷ h ∷ []) w
 packs w a b c d e f g h la lb lc ld le lf lg lh q = record {
   bytes = λ k l. ap (λ x. byteOf x k) q ∙ each-of-eight

@@ -6,10 +6,10 @@ use mantissas::tally::Tally;
 use mantissas::tally::fields;
 use mantissas::tally::tallied;
 ghost use mathlib.Core.Path.{_≡_};
-ghost use mathlib.Core.List.{List, [], _∷_};
-ghost use Prim.Native.Nat.{ℕ, _+_, _-_, _*_, _%_, _/_, _<_, _≤_};
+ghost use mathlib.Core.List.{[], _∷_};
+ghost use Prim.Native.Nat.{_+_, _-_, _*_, _%_, _/_, _<_, _≤_};
 ghost use lib.Dec.{eqb};
-ghost use lib.ListN.{length, getD};
+ghost use lib.ListN.{length};
 ghost use Rattle.mantissas.specs.Tally.{tallyOf};
 ghost use Rattle.allocation.specs.Memo.{Packs, eightIn, Kept, Noted, Tallies, staleOf};
 

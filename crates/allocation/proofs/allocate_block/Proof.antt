@@ -1,5 +1,5 @@
 use native.Mathlib.Omega.{arith}
-use mathlib.Core.Path.{_≡_, refl, sym, ap, _∙_}
+use mathlib.Core.Path.{refl, sym, _∙_}
 use Rattle.allocation.proofs.StateLaws.{never-sent, sent}
 use Rattle.allocation.proofs.MemoLaws.{common-coded, points-are, points-done}
 use borrow.Author.Needs.{needs}
@@ -31,4 +31,5 @@ returns-3 c = (
 
 pub allocate-block-spec : {M : Type 1} → statement M
 allocate-block-spec =
-    tie.close (tie.spec (λ c. search needs) (λ c. search needs) returns (λ c κs. search needs) (λ c κs. search needs) first-stale-requires returns-2 point-slots-requires returns-3)
+    tie.close (tie.spec (λ c. search needs) (λ c. search needs) returns (λ c κs. search needs) (λ c κs. search needs)
+    first-stale-requires returns-2 point-slots-requires returns-3)

@@ -1,4 +1,3 @@
-use mathlib.Core.Path.{_≡_, refl, sym, ap, _∙_}
 use borrow.Author.Needs.{needs}
 use Rattle.allocation.proofs.deltas_in.Statement.{statement}
 use Rattle.allocation.proofs.deltas_in.Tie as tie
@@ -8,4 +7,5 @@ returns c = rw (c .before .before .before .index .ensures .0, c .before .before 
 
 pub deltas-in-spec : {M : Type 1} → statement M
 deltas-in-spec =
-    tie.close (tie.spec (λ c κs. search needs) (λ c κs. search needs) (λ c κs. search needs) (λ c κs. search needs) (λ c κs. search needs) returns)
+    tie.close (tie.spec (λ c κs. search needs) (λ c κs. search needs) (λ c κs. search needs) (λ c κs. search needs)
+    (λ c κs. search needs) returns)

@@ -39,4 +39,5 @@ returns-2 c = c .before .loop .inv
 
 pub first-stale-spec : {M : Type 1} → statement M
 first-stale-spec =
-    tie.close (tie.spec Inv-loop μ-loop loop-holds (λ c. search needs) (λ c. search needs) element-copy-out-source-of (λ c κs. search needs) kept-requires returns add-slot loop-less loop-again returns-2)
+    tie.close (tie.spec Inv-loop μ-loop loop-holds (λ c. search needs) (λ c. search needs) element-copy-out-source-of
+    (λ c κs. search needs) kept-requires returns add-slot loop-less loop-again returns-2)

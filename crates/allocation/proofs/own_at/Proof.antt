@@ -1,4 +1,4 @@
-use mathlib.Core.Path.{_≡_, refl, _∙_}
+use mathlib.Core.Path.{_∙_}
 use borrow.Author.Tests.{not-true, not-false}
 use Rattle.allocation.proofs.MemoLaws.{owned, not-owned}
 use borrow.Author.Needs.{needs}
@@ -13,5 +13,6 @@ returns-2 c = owned _ _ _ _ _ _ _ _ _ _ _ _ _ (c .before .before .before .before
 
 pub own-at-spec : {M : Type 1} → statement M
 own-at-spec =
-    tie.close (tie.spec (λ c κs. search needs) returns (λ c κs. search needs) (λ c κs. search needs) (λ c κs. search needs) (λ c κs. search needs)
+    tie.close (tie.spec (λ c κs. search needs) returns (λ c κs. search needs) (λ c κs. search needs)
+    (λ c κs. search needs) (λ c κs. search needs)
     (λ c κs. search needs) (λ c κs. search needs) (λ c κs. search needs) (λ c. search needs) (λ c. search needs) (λ c κs. search needs) returns-2)

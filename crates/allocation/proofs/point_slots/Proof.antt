@@ -1,5 +1,5 @@
 use native.Mathlib.Omega.{arith}
-use mathlib.Core.Path.{_≡_, refl, sym, ap, _∙_}
+use mathlib.Core.Path.{_≡_, refl, sym, _∙_}
 use mathlib.Core.Logic.{⊎-elim}
 use Prim.Native.Nat.{_-_, _≤_}
 use borrow.Author.Tests.{not-true, not-false}
@@ -54,4 +54,7 @@ returns c = (sym (c .before .loop .inv .1 ∙ points-done _ _ _ _ _ _ _ _ (c .lo
 
 pub point-slots-spec : {M : Type 1} → statement M
 point-slots-spec =
-    tie.close (tie.spec Inv-loop μ-loop (λ c κs. search needs) (λ c κs. search needs) (λ c κs. search needs) (λ c κs. search needs) (λ c κs. search needs) (λ c κs. search needs) (λ c κs. search needs) loop-holds (λ c. search needs) (λ c. search needs) element-copy-out-source-of (λ c κs. search needs) kept-requires renew-requires add-slot loop-less loop-again returns)
+    tie.close (tie.spec Inv-loop μ-loop (λ c κs. search needs) (λ c κs. search needs) (λ c κs. search needs)
+    (λ c κs. search needs) (λ c κs. search needs) (λ c κs. search needs) (λ c κs. search needs) loop-holds
+    (λ c. search needs) (λ c. search needs) element-copy-out-source-of (λ c κs. search needs) kept-requires
+    renew-requires add-slot loop-less loop-again returns)

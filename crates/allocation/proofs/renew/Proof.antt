@@ -1,5 +1,4 @@
 use native.Mathlib.Omega.{arith}
-use mathlib.Core.Path.{_≡_, refl, sym, ap, _∙_}
 use Rattle.alloc.proofs.Codes.{codes-tuned}
 use Rattle.mantissas.proofs.TallyLaws.{shares-small}
 use Rattle.allocation.proofs.StateLaws.{exps-part, part-sized}
@@ -30,4 +29,7 @@ returns c =
 
 pub renew-spec : {M : Type 1} → statement M
 renew-spec =
-    tie.close (tie.spec (λ c κs. search needs) (λ c κs. search needs) (λ c κs. search needs) (λ c κs. search needs) (λ c. search needs) (λ c. search needs) (λ c. search needs) (λ c. search needs) part-allocate-end (λ c. search needs) (λ c. search needs) part-allocate-end-2 allocate-requires note-requires (λ c. search needs) returns)
+    tie.close (tie.spec (λ c κs. search needs) (λ c κs. search needs) (λ c κs. search needs) (λ c κs. search needs)
+    (λ c. search needs) (λ c. search needs) (λ c. search needs) (λ c. search needs) part-allocate-end
+    (λ c. search needs) (λ c. search needs) part-allocate-end-2 allocate-requires note-requires (λ c. search needs)
+    returns)

@@ -1,4 +1,4 @@
-use mathlib.Core.Path.{_≡_, refl, _∙_}
+use mathlib.Core.Path.{refl, _∙_}
 use Rattle.allocation.proofs.MemoLaws.{kept-by, kept-none}
 use borrow.Author.Needs.{needs}
 use Rattle.allocation.proofs.memo.kept.Statement.{statement}
