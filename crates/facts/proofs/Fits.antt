@@ -12,7 +12,7 @@ use Rattle.slots.specs.Held.{Bins, bins}
 use Rattle.cells.specs.Cells.{State, state, Addr, cellOf, putIn, stored, placeOf, heldOf}
 use Rattle.rows.specs.Syntax.{Count, Fixed, Held, Value, Here, Let, Less, Plus, Minus, Item, Block, element, elements, span, mantissas, exponents, when, each, reject, reject-at, put, fill, derive, end, _⨾_, countOf, amountOf, filled}
 use Rattle.facts.specs.Along.{Point}
-use Rattle.facts.specs.Bounds.{Within}
+use Rattle.facts.specs.Bounds.{tagsMost, Within}
 use Rattle.cells.proofs.Cells.{cell-other}
 use Rattle.facts.proofs.Cells.{cell-zero, cell-put}
 use Rattle.facts.proofs.Bounds.{both, Test, may, may-room, Permitted, Changed, changed-none, changed-then, changed-more, puts, Known, Knows, upTo, forget, up-to, forgets, spread, spreads, place-base, valueAt, value-at, heldLeast, heldMost, held-range}
@@ -183,7 +183,7 @@ module _ (byBounds : Item → Bool) where
     fitsIn permits (elements name i w a k f n) ks =
         may permits k 0 0 (upTo ks n - 1) && may permits (a .base) (spread a ((k, 0, upTo ks n - 1) ∷ [])) 0 (2 ^ w - 1)
     fitsIn permits (span name k) ks = true
-    fitsIn permits (mantissas name a) ks = may permits (a .base) (spread a ks) 0 65535
+    fitsIn permits (mantissas name a) ks = may permits (a .base) (spread a ks) 0 tagsMost
     fitsIn permits (exponents s name i) ks = true
     fitsIn permits (when c b) ks = fits permits b ks
     fitsIn permits (each k i n b) ks =
@@ -253,7 +253,7 @@ module _ (byBounds : Item → Bool) where
       fits-item permits (span name k) ks h st p es w f = walked-span s l Q name k st p es (λ q fs g. next-same permits ks st (st .bins) es fs q w f g)
       fits-item permits (mantissas name a) ks h st p es w f =
           walked-mantissas s l Q name a st p es
-          (λ v q fs g. record { reached = next-put permits a v 0 65535 ks st es fs q w f h (omega arith) (omega arith) g .reached; knows = tt })
+          (λ v q fs t g. record { reached = next-put permits a v 0 tagsMost ks st es fs q w f h (omega arith) (omega arith) g .reached; knows = tt })
       fits-item permits (exponents x name i) ks h st p es w f = walked-exponents s l Q x name i st p es (λ e q fs g. next-same permits ks st (bins e (st .bins .baps)) es fs q w f g)
       fits-item permits (when c b) ks h st p es w f =
           walked-when s l Q c b st p es

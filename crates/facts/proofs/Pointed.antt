@@ -39,7 +39,7 @@ use Rattle.annex.specs.Audblk.{dynamics, spx-strategy, spx-coordinates, cpl-str
 use Rattle.annex.specs.Annex.{header, audblks, body}
 use Rattle.annex.specs.Frame.{start, bytesOf}
 use Rattle.facts.specs.Along.{Point, Along}
-use Rattle.facts.specs.Bounds.{bounds, mostIn, most, Within}
+use Rattle.facts.specs.Bounds.{tagsMost, bounds, mostIn, most, Within}
 use Rattle.facts.specs.Unmet.{mostPointer, Pointers, Pointed, AllPointed}
 use Rattle.facts.proofs.Cells.{cell-beside}
 use Rattle.facts.proofs.Bounds.{both, may, Changed, puts}
@@ -168,7 +168,7 @@ module _ (s : List ℕ) (l : ℕ) where
     sized-item (element name i w a) st p es h = walked-element s l Anywhere name i w a st p es (λ v fs _ _ _. h)
     sized-item (elements name i w a k f n) st p es h = walked-elements s l Anywhere name i w a k f n st p es (λ j. Held) h (λ j x q fs _ g v gs _ _. g) (λ j x q fs _ g. g)
     sized-item (span name k) st p es h = walked-span s l Anywhere name k st p es (λ q fs _. h)
-    sized-item (mantissas name a) st p es h = walked-mantissas s l Anywhere name a st p es (λ v q fs _. h)
+    sized-item (mantissas name a) st p es h = walked-mantissas s l Anywhere name a st p es (λ v q fs _ _. h)
     sized-item (exponents x name i) st p es h = walked-exponents s l Anywhere x name i st p es (λ e q fs _. h)
     sized-item (when c b) st p es h = walked-when s l Anywhere c b st p es (λ _. sized-block b st p es h) (λ _. h)
     sized-item (each k i n b) st p es h = walked-each s l Anywhere k i n b st p es (λ j. Held) h (λ j a q fs _ g. sized-block b (stored a k j) q fs g) (λ j a q fs _ g. g)
@@ -268,7 +268,7 @@ module _ (s : List ℕ) (l : ℕ) where
   unfolding fitting any
   may-start = refl
 
-  may-tags : may (any s l) TAGS 0 0 65535 ≡ true
+  may-tags : may (any s l) TAGS 0 0 tagsMost ≡ true
   unfolding fitting any
   may-tags = refl
 
@@ -290,9 +290,9 @@ module _ (s : List ℕ) (l : ℕ) where
       )))
       (λ b u gs r. walks-next s l Pointed _ _ b u gs {M = Kept s l} (λ name c e. r .1)
       (walked-mantissas s l Pointed _ (cell TAGS) b u gs
-      (λ v t hs _.
+      (λ v t hs u _.
       let e = place-cell TAGS (b .cells) in
-      (puts (any s l) (b .cells) (placeOf (cell TAGS) (b .cells)) v TAGS 0 0 65535 (r .0 .0) may-tags (omega arith) (omega arith) (omega arith) (omega arith) .within, r .0 .1)))
+      (puts (any s l) (b .cells) (placeOf (cell TAGS) (b .cells)) v TAGS 0 0 tagsMost (r .0 .0) may-tags (omega arith) (omega arith) (omega arith) (omega arith) .within, r .0 .1)))
       (λ c t hs k. plain-walk s l _ refl c t hs k)))
 
   -- the sections before it; the blocks; the whole body

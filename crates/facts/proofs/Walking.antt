@@ -19,6 +19,8 @@ use Rattle.derivations.specs.Derivations.{derived}
 use Rattle.derivations.specs.Sets.{exponentsOf}
 use Rattle.derivations.specs.Shapes.{mantissasIn}
 use Rattle.rows.specs.Syntax.{Cond, Count, Value, Item, Block, element, elements, span, mantissas, exponents, when, each, reject, reject-at, put, fill, derive, end, _⨾_, _⧺_, none, holdsOf, countOf, amountOf, turns, filled, one, item, meaning}
+use Rattle.facts.specs.Bounds.{tagsMost}
+use Rattle.facts.proofs.Tags.{tags-most}
 use Rattle.facts.specs.Along.{Point, Has, Then, Turning, Inside, Along}
 
 -- the records so far only grow
@@ -184,9 +186,9 @@ module _ (s : List ℕ) (l : ℕ) (Q : Item → Point) where
   }
 
   pub walked-mantissas : (name : ℕ) (a : Addr) (st : State) (p : ℕ) (es : List Entry) {R : Point}
-      → ((v q : ℕ) (fs : List Entry) → Grows es fs → R (stored st (placeOf a (st .cells)) v) q fs) → Walked (mantissas name a) st p es R
+      → ((v q : ℕ) (fs : List Entry) → v ≤ tagsMost → Grows es fs → R (stored st (placeOf a (st .cells)) v) q fs) → Walked (mantissas name a) st p es R
   unfolding Inside item run after
-  walked-mantissas name a st p es {R} h = record { inside = tt; ends = go (O .result) }
+  walked-mantissas name a st p es {R} h = record { inside = tt; ends = go (O .result) (λ v e. tags-most st s p l v e) }
     where
       O : Outcome (List ℕ)
       O = skim (mantissasIn st) s p l
@@ -197,12 +199,12 @@ module _ (s : List ℕ) (l : ℕ) (Q : Item → Point) where
       F : List ℕ → ℕ → Outcome State
       F v e = cons (region x p (e - p)) (out (accepted (stored st (placeOf a (st .cells)) (getD v 0 0))) e [])
 
-      go : (r : Result (List ℕ)) (c : State) → andThen r (O .place) (O .records) F .result ≡ accepted c
+      go : (r : Result (List ℕ)) → ((v : List ℕ) → r ≡ accepted v → getD v 0 0 ≤ tagsMost) → (c : State) → andThen r (O .place) (O .records) F .result ≡ accepted c
           → R c (andThen r (O .place) (O .records) F .place) (es ++ andThen r (O .place) (O .records) F .records)
-      go (accepted v) c e =
+      go (accepted v) t c e =
           let z : stored st (placeOf a (st .cells)) (getD v 0 0) ≡ c = cc in
-          subst (λ y. R y (O .place) (es ++ (O .records ++ (region x p (O .place - p) ∷ [])))) z (h (getD v 0 0) (O .place) _ (grows-append es _))
-      go (refused n) c e = absurd (let z : _≡_ {A = ℕ} 0 1 = cc in omega arith)
+          subst (λ y. R y (O .place) (es ++ (O .records ++ (region x p (O .place - p) ∷ [])))) z (h (getD v 0 0) (O .place) _ (t v refl) (grows-append es _))
+      go (refused n) t c e = absurd (let z : _≡_ {A = ℕ} 0 1 = cc in omega arith)
 
   pub walked-exponents : (x : Sum) (name : ℕ) (i : Sum) (st : State) (p : ℕ) (es : List Entry) {R : Point}
       → ((e : List ℕ) (q : ℕ) (fs : List Entry) → Grows es fs → R (state (st .cells) (bins e (st .bins .baps))) q fs) → Walked (exponents x name i) st p es R
