@@ -11,7 +11,7 @@ use borrow.Author.Tests.{le-leb, lt-leb, ne-eqb}
 use Rattle.bits.specs.Bits.{bitsAt}
 use Rattle.bits.proofs.BitLaws.{bitsAt-lt}
 use Rattle.reading.specs.Tree.{Tree, done, _>>=_}
-use Rattle.reading.specs.Run.{Field, fieldOf, accepted, refused, Outcome, out, after, run}
+use Rattle.reading.specs.Run.{Field, fieldOf, Result, accepted, refused, Outcome, out, after, run}
 use Rattle.reading.specs.Frame.{plain, tail as tailOf, finish, framed, sized, parse}
 use Rattle.reading.specs.Room.{Room, size, pushed, cut, fill, Out, got, into, record-in, exec}
 use Rattle.reading.proofs.Rooms.{cut-same, go-on, _then_, exec-bind, exec-is, into-after}
@@ -32,7 +32,7 @@ use Rattle.annex.specs.Tail.{tail}
 use Rattle.annex.specs.Frame.{start, tailNames, bytesOf, eac3}
 use Rattle.annex.proofs.Header.{frmsiz-is}
 use Rattle.annex.proofs.Tails.{Outside, rows-tail}
-use Rattle.eac3.specs.Answer.{answered, answerBy, answerOf, numberOf, placeOf, countOf, numberIn, Called}
+use Rattle.eac3.specs.Answer.{answered, answerBy, answerOf, numberOf, placeOf as answerPlace, countOf, numberIn, Called}
 use Rattle.eac3.specs.Parts.{placed, followed, stoppedBy, readOf, refusalFrom, answerFrom}
 use Rattle.eac3.specs.declared.answer.Answer.{Answer}
 
@@ -187,7 +187,7 @@ number-by : (r : Result State) (p n : ℕ) → numberOf (answerBy r p n) ≡ num
 number-by (accepted st) p n = refl
 number-by (refused k) p n = refl
 
-place-by : (r : Result State) (p n k : ℕ) → r ≡ refused k → placeOf (answerBy r p n) ≡ p
+place-by : (r : Result State) (p n k : ℕ) → r ≡ refused k → answerPlace (answerBy r p n) ≡ p
 place-by (accepted st) p n k e = absurd (let z : _≡_ {A = ℕ} 0 1 = cc in omega arith)
 place-by (refused j) p n k e = refl
 
@@ -203,7 +203,7 @@ module _ (s : List ℕ) (m : Room) where
       record {
         answer = e;
         number = ap numberOf e ∙ number-by (o .result) (o .place) (o .count);
-        place = λ k f. ap placeOf e ∙ place-by (o .result) (o .place) (o .count) k f;
+        place = λ k f. ap answerPlace e ∙ place-by (o .result) (o .place) (o .count) k f;
         count = ap countOf e ∙ count-by (o .result) (o .place) (o .count);
         left = l;
       }

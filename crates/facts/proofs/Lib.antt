@@ -6,6 +6,7 @@ pub mod Derived
 pub mod Fits
 pub mod Bounded
 pub mod Counts
+pub mod Alongs
 pub mod Outcomes
 pub mod Room
 pub mod Leaves

@@ -22,7 +22,7 @@ use Rattle.allocation.specs.declared.Codes.{Codes}
 use Rattle.allocation.specs.declared.Parameters.{Parameters}
 use Rattle.allocation.specs.declared.Parameters.the-variants.{NeverSent, Sent}
 use Rattle.allocation.specs.declared.Segments.{Segments}
-use Rattle.allocation.proofs.StateLaws.{pointed-length, pointed-at, pointed-apart, allocation-length}
+use Rattle.allocation.proofs.StateLaws.{pointed-length, pointed-at, pointed-apart}
 use Rattle.allocation.proofs.Unmet.{bap-within, hebap-within}
 use Rattle.cells.specs.Cells.{State, state, Addr, cellOf, putIn, stored, placeOf}
 use Rattle.cells.specs.Names.{AHT-READ, AHTINU, BLK, CHINCPL, CPLEND, CPLINU, CPLSTRT, ENDMANT, FSCOD, LFEON, MANTISSA-STARTS, NFCHANS, NUMBLKS, TAGS}
@@ -52,7 +52,7 @@ use Rattle.facts.proofs.Walking.{Walks, Walked, walks-end, walks-next, 
 -- the pointers of a slot
 module _ (st : AllocState) (p : Params) (shape : Shape) (d : Segments) (exps : List ℕ) where
   pointers-sized : (slot : ℕ) → length (pointersOf st p shape d exps slot) ≡ 256
-  unfolding pointersOf
+  unfolding pointersOf allocation
   pointers-sized slot = go (silentOf st shape)
     where
       x : List ℕ
@@ -60,7 +60,7 @@ module _ (st : AllocState) (p : Params) (shape : Shape) (d : Segments) (exps : L
 
       go : (c : Bool) → length (cond c (replicate 256 0) x) ≡ 256
       go true = length-replicate {A = ℕ} 256 0
-      go false = allocation-length (kindOf shape slot) (expsIn exps slot) (channelOf st shape slot) p (leakFor st slot) (segmentsOf d slot)
+      go false = refl
 
   pointers-within : (slot bin : ℕ) → getD (pointersOf st p shape d exps slot) bin 0 ≤ mostPointer (getD (shape .ahtinu) slot false)
   unfolding pointersOf kindOf

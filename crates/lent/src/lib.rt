@@ -64,6 +64,7 @@ pub fn read_at(
     ensures { λ t. ⌜ outcome (t .cursor) (t .value) (room (now (names .exit)) (now (blocks .exit)) (now (indexes .exit)) (now (firsts .exit)) (now (widths .exit)) (now (values .exit)))
         ≡ readOf (now (src .entry)) (limit .0) (partOf label) width (at .0) count (room (now (names .entry)) (now (blocks .entry)) (now (indexes .entry)) (now (firsts .entry)) (now (widths .entry)) (now (values .entry))) ⌝ }
 {
+    let cur = syntax::going(at, count);
     syntax::read(
         src,
         names,
@@ -72,7 +73,7 @@ pub fn read_at(
         firsts,
         widths,
         values,
-        syntax::going(at, count),
+        cur,
         limit,
         label.name,
         label.block,
@@ -132,6 +133,7 @@ pub fn span_at(
     ensures { λ t. ⌜ outcome t 0 (room (now (names .exit)) (now (blocks .exit)) (now (indexes .exit)) (now (firsts .exit)) (now (widths .exit)) (now (values .exit)))
         ≡ spanOf (now (src .entry)) (limit .0) (partOf label) width (at .0) count (room (now (names .entry)) (now (blocks .entry)) (now (indexes .entry)) (now (firsts .entry)) (now (widths .entry)) (now (values .entry))) ⌝ }
 {
+    let here = syntax::going(at, count);
     syntax::span(
         names,
         blocks,
@@ -139,7 +141,7 @@ pub fn span_at(
         firsts,
         widths,
         values,
-        syntax::going(at, count),
+        here,
         limit,
         label.name,
         label.block,
@@ -198,6 +200,7 @@ pub fn close_at(
     ensures { λ t. ⌜ outcome t 0 (room (now (names .exit)) (now (blocks .exit)) (now (indexes .exit)) (now (firsts .exit)) (now (widths .exit)) (now (values .exit)))
         ≡ closeOf (partOf label) (first .0) (at .0) count (room (now (names .entry)) (now (blocks .entry)) (now (indexes .entry)) (now (firsts .entry)) (now (widths .entry)) (now (values .entry))) ⌝ }
 {
+    let end = syntax::going(at, count);
     syntax::close(
         names,
         blocks,
@@ -205,7 +208,7 @@ pub fn close_at(
         firsts,
         widths,
         values,
-        syntax::going(at, count),
+        end,
         label.name,
         label.block,
         label.index,

@@ -8,10 +8,10 @@ use Rattle.lent.proofs.close_at.Statement.{statement}
 use Rattle.lent.proofs.close_at.Tie as tie
 
 close-requires : tie.Need-close-requires
-close-requires c κs = reach _ _ _ (c .before .before .going .ensures) _ (c .before .before .before .before .before .before .before .before .before .before .before .before .before .before .pre)
+close-requires c κs = reach _ _ _ (c .before .before .before .before .before .before .before .before .going .ensures) _ (c .before .before .before .before .before .before .before .before .before .before .before .before .before .before .pre)
 
 returns : tie.Need-returns
-returns c = close-from _ _ _ (c .before .before .before .before .before .before .before .before .before .before .before .before .before .going .ensures) _
+returns c = close-from _ _ _ (c .before .before .before .before .before .before .before .before .before .before .before .before .before .before .before .before .before .before .before .going .ensures) _
     (toZ-ofZ {w = w8} {z = c .before .before .before .before .before .before .before .before .before .before .before .before .before .before .before .before .before .before .before .before .before .before .before .before .before .args .label .block} (record { sfits = c .before .before .before .before .before .before .before .before .before .before .before .struct-told2 .given .1 .0 .1 })) (toZ-ofZ {w = w16} {z = c .before .before .before .before .before .before .before .before .before .before .before .before .before .before .before .before .before .before .before .before .before .before .before .before .before .args .label .index} (record { sfits = c .before .before .before .before .before .before .before .before .before .before .before .struct-told2 .given .1 .1 .0 .1 }))
     _ _ (c .before .before .before .before .before .before .before .before .before .before .close .ensures)
 
