@@ -327,7 +327,7 @@ sums a k ks m w h = go (eqb (spread a ks) 0) refl
     go false e = let x = value-at a ks m w h in let y = up-to ks m k w h in omega arith
 
 -- but for the present place, a value lies between them
-ranges : (v : Value) (ks : Known) (m : List ℕ) (p : ℕ) → Within m → Knows ks m → greatestOf v ks ≤ 65535 → (leastOf v ≤ amountOf v p m) × (amountOf v p m ≤ greatestOf v ks)
+pub ranges : (v : Value) (ks : Known) (m : List ℕ) (p : ℕ) → Within m → Knows ks m → greatestOf v ks ≤ 65535 → (leastOf v ≤ amountOf v p m) × (amountOf v p m ≤ greatestOf v ks)
 unfolding leastOf greatestOf
 ranges Here ks m p w h i = absurd (let z : ⊥ = omega arith in z)
 ranges (Let x y a) ks m p w h i = let r = mul-le-mul-left y (value-at a ks m w h) in (omega arith, omega arith)

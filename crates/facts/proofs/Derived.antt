@@ -53,7 +53,7 @@ remat-range a b c d =
     (λ _. either d 3 4 2 4 (λ _. (omega arith, omega arith)) (λ _. (omega arith, omega arith)))
 
 -- what is counted one by one
-flag-most : (c : Bool) → cond c 1 0 ≤ 1
+pub flag-most : (c : Bool) → cond c 1 0 ≤ 1
 flag-most true = omega arith
 flag-most false = omega arith
 
@@ -61,32 +61,32 @@ flag-not-most : (c : Bool) → cond c 0 1 ≤ 1
 flag-not-most true = omega arith
 flag-not-most false = omega arith
 
-sum-most : (f : ℕ → ℕ) (n : ℕ) → ((i : ℕ) → f i ≤ 1) → sumOf f n ≤ n
+pub sum-most : (f : ℕ → ℕ) (n : ℕ) → ((i : ℕ) → f i ≤ 1) → sumOf f n ≤ n
 unfolding sumOf
 sum-most f zero h = omega arith
 sum-most f (suc n) h = omega (arith, sum-most f n h, h n)
 
 -- the bounds that the ranges follow from
-record Limits (m : List ℕ) : Type 0 where
-  numblkscod : cellOf m NUMBLKSCOD ≤ 3
-  numblks : cellOf m NUMBLKS ≤ 6
-  channel : cellOf m CH ≤ 4
-  nfchans : cellOf m NFCHANS ≤ 5
-  spxbegf : cellOf m SPXBEGF ≤ 7
-  spxendf : cellOf m SPXENDF ≤ 7
-  spx-begin : cellOf m SPX-BEGIN ≤ 11
-  spx-end : cellOf m SPX-END ≤ 17
-  cplbegf : cellOf m CPLBEGF ≤ 15
-  cplendf : cellOf m CPLENDF ≤ 15
-  cpl-end : cellOf m CPL-SUBND-END ≤ 18
-  cplstrt : cellOf m CPLSTRT ≤ 217
-  chbwcod : (ch : ℕ) → ch < 5 → cellOf m (CHBWCOD + ch) ≤ 63
+pub record Limits (m : List ℕ) : Type 0 where
+  pub numblkscod : cellOf m NUMBLKSCOD ≤ 3
+  pub numblks : cellOf m NUMBLKS ≤ 6
+  pub channel : cellOf m CH ≤ 4
+  pub nfchans : cellOf m NFCHANS ≤ 5
+  pub spxbegf : cellOf m SPXBEGF ≤ 7
+  pub spxendf : cellOf m SPXENDF ≤ 7
+  pub spx-begin : cellOf m SPX-BEGIN ≤ 11
+  pub spx-end : cellOf m SPX-END ≤ 17
+  pub cplbegf : cellOf m CPLBEGF ≤ 15
+  pub cplendf : cellOf m CPLENDF ≤ 15
+  pub cpl-end : cellOf m CPL-SUBND-END ≤ 18
+  pub cplstrt : cellOf m CPLSTRT ≤ 217
+  pub chbwcod : (ch : ℕ) → ch < 5 → cellOf m (CHBWCOD + ch) ≤ 63
 
 chbwcods-most : mostOver CHBWCOD 4 ≡ 63
 unfolding mostOver most mostIn bounds
 chbwcods-most = refl
 
-limits : (m : List ℕ) → Within m → Limits m
+pub limits : (m : List ℕ) → Within m → Limits m
 unfolding most mostIn bounds
 limits m w = record {
   numblkscod = w .below NUMBLKSCOD;

@@ -17,3 +17,4 @@ pub mod Uses
 pub mod Sent
 pub mod Unmet
 pub mod Pointed
+pub mod Unwrapped

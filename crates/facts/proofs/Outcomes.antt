@@ -434,7 +434,7 @@ short : (among refusals 1 ≡ true) × (among refusals 4 ≡ true)
 unfolding among refusals
 short = (refl, refl)
 
-frmsiz-most : most FRMSIZ ≡ 2047
+pub frmsiz-most : most FRMSIZ ≡ 2047
 unfolding most mostIn bounds
 frmsiz-most = refl
 

@@ -4,3 +4,4 @@ pub mod Counts
 pub mod Outcomes
 pub mod Suffices
 pub mod Unmet
+pub mod Unwrapped
