@@ -50,7 +50,7 @@ module _ (s : List ℕ) (l : ℕ) where
   bounded-by b h st p es w =
       walks-map s l Bounded (λ a q fs r. r .changed .within) (fits-block every s l Bounded (λ i x q fs _ k. k) everything b [] h st p es w tt)
 
-start-within : Within (start .cells)
+pub start-within : Within (start .cells)
 unfolding start
 start-within = none-within
 

@@ -18,3 +18,4 @@ pub mod Sent
 pub mod Unmet
 pub mod Pointed
 pub mod Unwrapped
+pub mod Unclamped

@@ -5,3 +5,4 @@ pub mod Outcomes
 pub mod Suffices
 pub mod Unmet
 pub mod Unwrapped
+pub mod Unclamped
