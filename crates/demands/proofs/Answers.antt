@@ -14,7 +14,8 @@ use Rattle.reading.specs.Frame.{parse}
 use Rattle.reading.proofs.Laws.{tiles-le}
 use Rattle.rows.specs.Syntax.{among}
 use Rattle.cells.specs.Cells.{State}
-use Rattle.annex.specs.Frame.{eac3}
+use Rattle.annex.specs.Frame.{announcedBy, eac3}
+use Rattle.annex.proofs.Header.{tells}
 use Rattle.facts.specs.Outcomes.{refusals, Numbered}
 use Rattle.facts.proofs.Outcomes.{all-keep}
 use Rattle.eac3.specs.Answer.{answerBy, numberOf, placeOf}
@@ -22,8 +23,8 @@ use Rattle.eac3.specs.declared.answer.Answer.{Answer}
 use Rattle.demands.specs.Calls.{Call, count}
 use Rattle.demands.specs.Answers.{numbers, Kept, Answers, AllAnswer}
 use Rattle.demands.proofs.Rooms.{cut-fits}
-use Rattle.demands.proofs.Calls.{outcome, is, counts}
-use Rattle.demands.proofs.Gapless.{parse-tiled}
+use Rattle.demands.proofs.Calls.{outcome, is, accepts, counts, bytes as bytes-of}
+use Rattle.demands.proofs.Gapless.{parse-tiled, accepted-ends}
 
 -- a list of numbers that are all on another
 allAmong : List ℕ → List ℕ → Bool
@@ -131,12 +132,18 @@ fill-keeps n (e ∷ es) m k h =
     }
 
 pub all-answer : AllAnswer
+unfolding eac3
 all-answer s c = record {
   number = rw (is c) (number-by (outcome c .result) (outcome c .place) (0 + length (outcome c .records)) (cut-listed (size (c .lent)) (parse eac3 s) (all-keep s .numbered)));
   fits = omega (arith, counts c, cut-fits (size (c .lent)) (parse eac3 s));
   place = rw (is c)
       (let u = place-by (outcome c .result) (outcome c .place) (0 + length (outcome c .records)) in
       omega (arith, cut-place (size (c .lent)) 0 (parse eac3 s) (parse-tiled eac3 s), all-keep s .place));
+  bytes = λ a.
+      let u = accepts c a in
+      let e = bytes-of c a in
+      let f = accepted-ends eac3 tells (size (c .lent)) s (u .0) (u .1) in
+      e ∙ (let z : outcome c .place / 8 ≡ announcedBy s = omega arith in z);
   names = kept .names;
   blocks = kept .blocks;
   indexes = kept .indexes;

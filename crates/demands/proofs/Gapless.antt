@@ -98,7 +98,7 @@ module _ {H A : Type 0} (F : Format H A) where
       six false q e = absurd (let z : _≡_ {A = ℕ} 0 1 = cc in omega arith)
 
   -- and ends where it announces
-  accepted-ends : Announces F → (n : ℕ) (b : List ℕ) (c : A) → cut n (parse F b) .result ≡ accepted c → cut n (parse F b) .place ≡ 8 * F .announced b
+  pub accepted-ends : Announces F → (n : ℕ) (b : List ℕ) (c : A) → cut n (parse F b) .result ≡ accepted c → cut n (parse F b) .place ≡ 8 * F .announced b
   accepted-ends t n b c e =
       let u : cut n (parse F b) ≡ parse F b = cut-same n (parse F b) (λ q. let z : _≡_ {A = ℕ} 0 1 = cc in omega arith) in
       let a : parse F b .result ≡ accepted c = ap (λ (o : Outcome A). o .result) (sym u) ∙ e in

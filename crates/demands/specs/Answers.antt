@@ -8,7 +8,8 @@ use lib.ListN.{length, getElem?}
 use Rattle.reading.specs.Room.{size}
 use Rattle.rows.specs.Syntax.{among}
 use Rattle.eac3.specs.Answer.{numberOf, placeOf}
-use Rattle.demands.specs.Calls.{Call, count}
+use Rattle.annex.specs.Frame.{announcedBy}
+use Rattle.demands.specs.Calls.{Call, count, Accepts}
 
 -- 0 for an accepted frame, and the 27 refusals of the scope
 unfoldable pub numbers : List ℕ
@@ -19,11 +20,12 @@ pub record Kept {A : Type 0} (n : ℕ) (before after : List A) : Type 0 where
   pub sized : length after ≡ length before
   pub rest : (i : ℕ) → n ≤ i → getElem? after i ≡ getElem? before i
 
--- the count is at most the least of the six lengths; the place is at most the bits of 4,096 bytes
+-- the count is at most the least of the six lengths; the place is at most the bits of 4,096 bytes; an accepted frame has the bytes that the slice announces
 pub record Answers (s : List ℕ) (c : Call s) : Type 0 where
   pub number : among numbers (numberOf (c .answer)) ≡ true
   pub fits : count c ≤ size (c .lent)
   pub place : placeOf (c .answer) ≤ 32768
+  pub bytes : Accepts c → c .answer .frame .bytes .0 ≡ announcedBy s
   pub names : Kept (count c) (c .lent .names) (c .left .names)
   pub blocks : Kept (count c) (c .lent .blocks) (c .left .blocks)
   pub indexes : Kept (count c) (c .lent .indexes) (c .left .indexes)

@@ -1,9 +1,9 @@
 -- The ranges of a block, and the sets of exponents that are read over them. Assumes nothing.
 use mathlib.Core.Path.{_≡_, refl, ap, sym, _∙_}
-use mathlib.Core.Bool.{Bool, true, false}
+use mathlib.Core.Bool.{Bool, true, false, cond}
 use mathlib.Core.List.{List, [], _∷_}
 use mathlib.Core.Logic.{_⊎_, inl, inr}
-use Prim.Native.Nat.{ℕ, suc, _+_, _*_, _-_, _%_, _≤_, _<_}
+use Prim.Native.Nat.{ℕ, suc, _+_, _*_, _-_, _/_, _%_, _≤_, _<_}
 use native.Mathlib.Omega.{arith}
 use lib.Dec.{eqb}
 use borrow.Author.Tests.{ne-eqb}
@@ -75,6 +75,45 @@ pub record Ranged (m : List ℕ) : Type 0 where
   pub channels : (ch : ℕ) → ch < cellOf m NFCHANS → Ending (cellOf m (ENDMANT + ch))
   pub coupling : cellOf m CPLINU ≡ 1 → SubBands (cellOf m CPLSTRT) (cellOf m CPLEND)
 
+-- the groups of a set do not pass bin 253
+sizes : (strategy : ℕ) → (sizeOf strategy ≡ 1) ⊎ ((sizeOf strategy ≡ 2) ⊎ (sizeOf strategy ≡ 4))
+unfolding sizeOf
+sizes strategy = go (eqb strategy 3) (eqb strategy 2)
+  where
+    size : Bool → Bool → ℕ
+    size a b = cond a 4 (cond b 2 1)
+
+    go : (a b : Bool) → (size a b ≡ 1) ⊎ ((size a b ≡ 2) ⊎ (size a b ≡ 4))
+    go true b = inr (inr refl)
+    go false true = inr (inl refl)
+    go false false = inl refl
+
+thirds-inside : (n size : ℕ) → n ≤ 252 → n % 3 ≡ 0 → (size ≡ 1) ⊎ ((size ≡ 2) ⊎ (size ≡ 4)) → 3 * size * ((n + (3 * size - 3)) / (3 * size)) ≤ 252
+thirds-inside n size h k (inl e) = rw e (omega arith)
+thirds-inside n size h k (inr (inl e)) = rw e (omega arith)
+thirds-inside n size h k (inr (inr e)) = rw e (omega arith)
+
+part-inside : (n size : ℕ) → (size ≡ 1) ⊎ ((size ≡ 2) ⊎ (size ≡ 4)) → 3 * size * (n / (3 * size)) ≤ n
+part-inside n size (inl e) = rw e (omega arith)
+part-inside n size (inr (inl e)) = rw e (omega arith)
+part-inside n size (inr (inr e)) = rw e (omega arith)
+
+groups-inside : (slot strategy start end : ℕ) → slot < 5 → Ending end → 1 + 3 * sizeOf strategy * groupsOf slot strategy start end ≤ 253
+unfolding groupsOf
+groups-inside slot strategy start end h k =
+    let e : eqb slot CPL ≡ false = ne-eqb slot 5 (λ z. omega arith) in
+    let f : eqb slot LFE ≡ false = ne-eqb slot 6 (λ z. omega arith) in
+    let r = thirds-inside (end - 1) (sizeOf strategy) (omega (arith, k .within)) (omega (arith, k .thirds, k .some)) (sizes strategy) in
+    rw (e, f) (omega arith)
+
+bands-inside : (strategy start end : ℕ) → start ≤ end → end ≤ 253 → start + 3 * sizeOf strategy * groupsOf CPL strategy start end ≤ 253
+unfolding groupsOf
+bands-inside strategy start end h k = let r = part-inside (end - start) (sizeOf strategy) (sizes strategy) in omega arith
+
+lfe-inside : 1 + 3 * sizeOf 1 * groupsOf LFE 1 0 7 ≤ 253
+unfolding sizeOf groupsOf
+lfe-inside = omega arith
+
 strategies-most : (mostOver CPLEXPSTR 5 ≡ 3) × (mostOver CHEXPSTR 47 ≡ 3) × (most BLK ≡ 5) × (most NFCHANS ≡ 5)
 unfolding mostOver most mostIn bounds
 strategies-most = (refl, refl, refl, refl)
@@ -98,6 +137,7 @@ module _ (m : List ℕ) (w : Within m) where
         strategy = rw (c, f) (omega arith, omega arith);
         range = rw (c, f) (omega (arith, e .some), omega (arith, e .within));
         reaches = rw (c, f) r;
+        inside = rw (c, f) (groups-inside ch (cellOf m k) 0 (cellOf m (ENDMANT + ch)) h e);
       }
 
   pub set-coupling : SubBands (cellOf m CPLSTRT) (cellOf m CPLEND) → ¬ (cellOf m (CPLEXPSTR + cellOf m BLK) ≡ 0) → SetFits m CPL
@@ -112,6 +152,7 @@ module _ (m : List ℕ) (w : Within m) where
         strategy = (omega arith, omega arith);
         range = (omega (arith, e .starts, e .ends, e .some), omega (arith, e .ends, e .few));
         reaches = rw d (set-reaches-coupling (cellOf m k) (cellOf m CPLSTRT) (e .past - e .first));
+        inside = bands-inside (cellOf m k) (cellOf m CPLSTRT) (cellOf m CPLEND) (omega (arith, e .starts, e .ends, e .some)) (omega (arith, e .ends, e .few));
       }
 
   pub set-lfe : SetFits m LFE
@@ -121,6 +162,7 @@ module _ (m : List ℕ) (w : Within m) where
     strategy = (omega arith, omega arith);
     range = (omega arith, omega arith);
     reaches = set-reaches-lfe;
+    inside = lfe-inside;
   }
 
 -- they stay

@@ -46,13 +46,17 @@ pub record Ready (es : List Entry) (m : List ℕ) : Type 0 where
   pub offsets : Offsets es
   pub leaks : cellOf m CPLINU ≡ 1 → Leaks es
 
--- a set of exponents that is read: it is of one of the seven slots, its strategy is D15, D25 or D45, its range has a bin and ends by bin 253, and its
--- groups reach the end
+-- a set of exponents that is read: it is of one of the seven slots, its strategy is D15, D25 or D45, its range has a bin and ends by bin 253, its groups
+-- reach the end, and do not pass bin 253
+abbrev pub pastGroups : List ℕ → ℕ → ℕ
+pastGroups m slot = firstOf slot (startOf m slot) + 3 * sizeOf (strategyOf m slot) * groupsOf slot (strategyOf m slot) (startOf m slot) (endOf m slot)
+
 pub record SetFits (m : List ℕ) (slot : ℕ) : Type 0 where
   pub among : slot < 7
   pub strategy : (1 ≤ strategyOf m slot) × (strategyOf m slot ≤ 3)
   pub range : (startOf m slot < endOf m slot) × (endOf m slot ≤ 253)
-  pub reaches : endOf m slot ≤ firstOf slot (startOf m slot) + 3 * sizeOf (strategyOf m slot) * groupsOf slot (strategyOf m slot) (startOf m slot) (endOf m slot)
+  pub reaches : endOf m slot ≤ pastGroups m slot
+  pub inside : pastGroups m slot ≤ 253
 
 -- at the rejection 22 cplbegf + ncplsubnd, which is cplendf + 3, is at most 18: the upper half of that test is not met
 abbrev pub Unmet : Item → Point
