@@ -1,10 +1,8 @@
 -- The derivations, by name: what the standard gives as a formula or a table, and not as syntax.
 use Prim.Native.Nat.{ℕ}
-use mathlib.Core.Path.{_≡_}
 use mathlib.Core.Bool.{cond}
 use mathlib.Core.List.{List}
 use lib.Dec.{eqb}
-use Rattle.allocation.specs.Memo.{Memo}
 use Rattle.cells.specs.Cells.{State, state}
 use Rattle.derivations.specs.Acted.{Acted, acted}
 use Rattle.derivations.specs.Frames.{numblksBy, nfchansBy, ncplblksBy, cplStrategiesBy, chStrategiesBy, regionsBy, blkstrtinfoBy}
@@ -107,8 +105,3 @@ derived k st =
     (cond (eqb k Allocation) (allocateIn st)
     (cond (eqb k AhtRead) (puts ahtReadBy st)
     (acted 0 st)))))))))))))))))
-
--- what the code says of a derivation: it is that of the definition, and what is kept of the last allocation stays right
-pub record Derives (k number : ℕ) (before after : State) (memo : List ℕ) : Type 0 where
-  pub is : acted number after ≡ derived k before
-  pub right : Memo memo (after .bins .exps) (after .bins .baps)

@@ -6,3 +6,4 @@ pub mod Sets
 pub mod Shapes
 pub mod Allocating
 pub mod Derivations
+pub mod Derives

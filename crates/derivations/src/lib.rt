@@ -10,7 +10,7 @@ ghost use mathlib.Core.Path.{_≡_};
 ghost use Rattle.slots.specs.Held.{bins, Held};
 ghost use Rattle.allocation.specs.Memo.{Memo};
 ghost use Rattle.cells.specs.Cells.{state};
-ghost use Rattle.derivations.specs.Derivations.{Derives};
+ghost use Rattle.derivations.specs.Derives.{Derives};
 use crate::allocating::allocate_in;
 use crate::allocating::defaults;
 use crate::allocating::fresh;

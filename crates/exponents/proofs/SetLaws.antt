@@ -21,7 +21,8 @@ use Rattle.slots.specs.Slots.{CPL}
 use Rattle.slots.specs.Held.{Held}
 use Rattle.slots.proofs.Tests.{both}
 use Rattle.exponents.specs.Exponents.{decodeOf, sizeOf, groupsOf, startOf, firstOf, putOf, spreadOf, laidOf}
-use Rattle.exponents.specs.Set.{onGroup, groupsFrom, begunOf, setOf, Laid, SetRead}
+use Rattle.exponents.specs.Set.{onGroup, groupsFrom, begunOf, setOf}
+use Rattle.exponents.specs.SetRead.{Laid, SetRead}
 use Rattle.exponents.specs.declared.Group.{Group}
 use Rattle.exponents.specs.declared.Group.the-variants.{Refused, Moved}
 use Rattle.exponents.proofs.ExpLaws.{Low, decode-low, start-low, put-held}

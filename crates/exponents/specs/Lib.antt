@@ -1,2 +1,3 @@
 pub mod Exponents
 pub mod Set
+pub mod SetRead

@@ -18,7 +18,8 @@ ghost use Prim.Native.Nat.{_≤_, _<_};
 ghost use lib.ListN.{length};
 ghost use Rattle.reading.specs.Room.{room};
 ghost use Rattle.syntax.specs.Records.{part};
-ghost use Rattle.exponents.specs.Set.{begunOf, Ready, SetRead};
+ghost use Rattle.exponents.specs.Set.{begunOf};
+ghost use Rattle.exponents.specs.SetRead.{Ready, SetRead};
 
 // Bin 0 of a channel or of LFE has the absolute exponent itself.
 fn begin(exps: &mut [u8; 1792], slot: u8, absexp: u8)

@@ -38,7 +38,7 @@ either true x y a z h k = h refl
 either false x y a z h k = k refl
 
 -- acmod gives at most five channels; a strategy has two bits; there are two to four rematrixing bands
-nfchans-most : (i : ℕ) → getD nfchans i 0 ≤ 5
+pub nfchans-most : (i : ℕ) → getD nfchans i 0 ≤ 5
 unfolding nfchans allUpTo
 nfchans-most i = at-most 5 nfchans i refl
 

@@ -71,6 +71,10 @@ unsent-fewer r rs =
     fewer true b c h = h
     fewer false b c h = absurd (true≢false (sym h))
 
+pub unsent-none : (rs : Ranges) (x y : List ℕ) → Changed (leavesUnsent rs) x y → Changed (leavesUnsent []) x y
+unfolding leavesUnsent outside
+unsent-none rs = changed-more (leavesUnsent rs) (leavesUnsent []) (λ j a z h. both (outside rs j) (not (eqb j FIRSTCPLLEAK) || leb 1 a) h .1)
+
 pub unsent-same : (rs : Ranges) (x y : List ℕ) (j : ℕ) → Changed (leavesUnsent rs) x y → j < 1024 → In rs j → cellOf y j ≡ cellOf x j
 unsent-same rs x y j g b h = leaves-same rs x y j (unsent-leaves rs x y g) b h
 
@@ -85,12 +89,12 @@ first-leak rs x y g e = go (g .each FIRSTCPLLEAK (omega arith))
         let b : leb 1 (a .least) ≡ true = both (outside rs FIRSTCPLLEAK) (leb 1 (a .least)) (a .okay) .1 in
         absurd (let z : ⊥ = omega (arith, leb-true 1 (a .least) b, a .above) in z)
 
--- all items but a set of exponents and the allocation ask for no more than the bounds
+-- all items but the mantissas, a set of exponents and the allocation ask for no more than the bounds
 abbrev pub byBounds : Item → Bool
 byBounds (element name i w a) = true
 byBounds (elements name i w a k f n) = true
 byBounds (span name k) = true
-byBounds (mantissas name a) = true
+byBounds (mantissas name a) = false
 byBounds (exponents s name i) = false
 byBounds (when c b) = true
 byBounds (each k i n b) = true
@@ -108,7 +112,7 @@ pub by-bounds : (i : Item) (st : State) (p : ℕ) (es : List Entry) → byBounds
 by-bounds (element name i w a) st p es h k = tt
 by-bounds (elements name i w a c f n) st p es h k = tt
 by-bounds (span name c) st p es h k = tt
-by-bounds (mantissas name a) st p es h k = tt
+by-bounds (mantissas name a) st p es h k = absurd (true≢false (sym h))
 by-bounds (exponents s name i) st p es h k = absurd (true≢false (sym h))
 by-bounds (when c b) st p es h k = tt
 by-bounds (each c i n b) st p es h k = tt

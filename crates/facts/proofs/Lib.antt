@@ -17,5 +17,6 @@ pub mod Uses
 pub mod Sent
 pub mod Unmet
 pub mod Pointed
+pub mod Visited
 pub mod Unwrapped
 pub mod Unclamped

@@ -11,10 +11,10 @@ use Rattle.slots.specs.Slots.{CPL, LFE}
 use Rattle.exponents.specs.Exponents.{sizeOf, groupsOf, firstOf}
 use Rattle.exponents.proofs.Unmet.{Ending, set-reaches-channel, set-reaches-coupling, set-reaches-lfe}
 use Rattle.cells.specs.Cells.{cellOf}
-use Rattle.cells.specs.Names.{BLK, CHBWCOD, CHEXPSTR, CPL-SUBND-END, CPLBEGF, CPLEND, CPLEXPSTR, CPLINU, CPLINUS, CPLSTRE, CPLSTRT, ENDMANT, LFEON, NFCHANS, SNROFFSTSTR}
+use Rattle.cells.specs.Names.{BLK, CHBWCOD, CHEXPSTR, CPL-SUBND-END, CPLBEGF, CPLEND, CPLEXPSTR, CPLINU, CPLINUS, CPLSTRE, CPLSTRT, ENDMANT, FSCOD, LFEON, NFCHANS, SNROFFSTSTR}
 use Rattle.derivations.specs.Sets.{strategyOf, startOf, endOf}
 use Rattle.facts.specs.Bounds.{bounds, mostIn, most, Within}
-use Rattle.facts.specs.Unmet.{SetFits}
+use Rattle.facts.specs.Unmet.{EndsFit, SetFits}
 use Rattle.facts.proofs.Bounds.{Changed, mostOver, most-over}
 use Rattle.facts.proofs.Leaves.{Ranges, leaves, leavesUnsent, leaves-same, unsent-fewer, unsent-same}
 
@@ -27,9 +27,9 @@ pub record SubBands (start end : ℕ) : Type 0 where
   pub some : first < past
   pub few : past ≤ 18
 
--- what a block leaves all through: its number, how SNR offsets are sent, and the use of coupling by block
+-- what a block leaves all through: its number, how SNR offsets are sent, the use of coupling by block, the sample rate and the number of channels
 unfoldable pub throughBlock : Ranges
-throughBlock = (BLK, BLK) ∷ (SNROFFSTSTR, SNROFFSTSTR) ∷ (CPLSTRE, CPLINUS + 5) ∷ []
+throughBlock = (BLK, BLK) ∷ (SNROFFSTSTR, SNROFFSTSTR) ∷ (CPLSTRE, CPLINUS + 5) ∷ (FSCOD, FSCOD) ∷ (NFCHANS, NFCHANS) ∷ []
 
 -- before its coupling strategy also the coupling sub-bands and the bandwidth codes
 unfoldable pub early : Ranges
@@ -58,6 +58,20 @@ settled-through x y g = early-through x y (unsent-fewer _ _ x y g)
 pub exponents-settled : (x y : List ℕ) → Changed (leavesUnsent throughExponents) x y → Changed (leavesUnsent settled) x y
 unfolding throughExponents
 exponents-settled x y g = unsent-fewer _ _ x y (unsent-fewer _ _ x y (unsent-fewer _ _ x y g))
+
+-- the sample rate is one of three, and there is a channel
+pub record Rated (m : List ℕ) : Type 0 where
+  pub rate : cellOf m FSCOD < 3
+  pub some : 1 ≤ cellOf m NFCHANS
+
+pub rated-stays : (x y : List ℕ) → cellOf y FSCOD ≡ cellOf x FSCOD → cellOf y NFCHANS ≡ cellOf x NFCHANS → Rated x → Rated y
+rated-stays x y e f r = record { rate = rw e (r .rate); some = rw f (r .some) }
+
+pub rated-through : (x y : List ℕ) → Changed (leavesUnsent throughBlock) x y → Rated x → Rated y
+unfolding throughBlock
+rated-through x y g r =
+    rated-stays x y (unsent-same throughBlock x y FSCOD g (omega arith) (inr (inr (inr (inl (omega arith, omega arith))))))
+    (unsent-same throughBlock x y NFCHANS g (omega arith) (inr (inr (inr (inr (inl (omega arith, omega arith))))))) r
 
 -- no bandwidth code is above 60; a block that is coupled has a sub-band; it is coupled as the frame says
 pub record Settled (m : List ℕ) : Type 0 where
@@ -113,6 +127,12 @@ bands-inside strategy start end h k = let r = part-inside (end - start) (sizeOf 
 lfe-inside : 1 + 3 * sizeOf 1 * groupsOf LFE 1 0 7 ≤ 253
 unfolding sizeOf groupsOf
 lfe-inside = omega arith
+
+pub ends-fit : (m : List ℕ) → Ranged m → EndsFit m
+ends-fit m r = record {
+  channels = λ ch h. r .channels ch h .within;
+  coupling = λ h. let c = r .coupling h in omega (arith, c .starts, c .ends, c .some);
+}
 
 strategies-most : (mostOver CPLEXPSTR 5 ≡ 3) × (mostOver CHEXPSTR 47 ≡ 3) × (most BLK ≡ 5) × (most NFCHANS ≡ 5)
 unfolding mostOver most mostIn bounds
@@ -266,7 +286,13 @@ module _ (x y : List ℕ) (g : Changed (leaves throughExponents) x y) where
       let b = blk-most y (g .within) in
       n (ap (λ k. cellOf x (CHEXPSTR + ch + 8 * k)) (sym block-same) ∙ sym (strategies-same (CHEXPSTR + ch + 8 * cellOf y BLK) (omega arith) (omega arith)) ∙ e)
 
-  -- and what is settled
+  -- and the rate, and what is settled
+  pub rated-kept : Rated x → Rated y
+  unfolding throughExponents
+  rated-kept r =
+      rated-stays x y (leaves-same throughExponents x y FSCOD g (omega arith) (inr (inr (inr (inr (inr (inr (inr (inr (inr (inl (omega arith, omega arith))))))))))))
+      nfchans-same r
+
   pub through-same : (j : ℕ) → CPLSTRE ≤ j → j ≤ CPLINUS + 5 → cellOf y j ≡ cellOf x j
   unfolding throughExponents
   through-same j h k = leaves-same throughExponents x y j g (omega arith) (inr (inr (inr (inr (inr (inr (inr (inr (inl (h, k))))))))))

@@ -98,7 +98,7 @@ tags-aht baps slot bin n =
     (λ gains _. tells-more (λ x. x ≤ 0 + 6 * n) (λ x. x ≤ 6 * n) (binsOf mode gains baps slot bin n 0 0) (λ x k. omega arith) (tags-bins mode gains baps slot bin n 0 0))
 
 -- a slot has at most 253 bins
-bins-most : (shape : Shape) (slot : ℕ) → rangeOf shape slot .end ≤ 253
+pub bins-most : (shape : Shape) (slot : ℕ) → rangeOf shape slot .end ≤ 253
 unfolding rangeOf
 bins-most shape slot = go (eqb slot CPL) (eqb slot LFE)
   where

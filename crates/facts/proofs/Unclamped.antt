@@ -1,4 +1,4 @@
--- No clamp of the definitions acts, wherever a reading comes: it follows from the bounds, by one computed test. Assumes nothing.
+-- No clamp of the definitions acts, wherever a reading comes: it follows from the bounds by one computed test, and from what allocations find. Assumes nothing.
 use mathlib.Core.Path.{_≡_, refl}
 use mathlib.Core.Bool.{Bool, true, _&&_}
 use mathlib.Core.List.{List, []}
@@ -15,10 +15,14 @@ use Rattle.annex.specs.Annex.{header, body}
 use Rattle.annex.specs.Frame.{start}
 use Rattle.facts.specs.Along.{Point, Along}
 use Rattle.facts.specs.Bounds.{bounds, mostIn, most, Within}
-use Rattle.facts.specs.Unclamped.{PartFits, Placed, NumberPlaced, CondPlaced, ValuePlaced, CountPlaced, CodesFit, Unclamped, NothingClamped}
+use Rattle.facts.specs.Unmet.{EndsFit, Ready, Unmet}
+use Rattle.facts.specs.Unclamped.{RangesFit, PartFits, Placed, NumberPlaced, CondPlaced, ValuePlaced, CountPlaced, CodesFit, Unclamped, NothingClamped}
 use Rattle.facts.proofs.Bounds.{both, may, puts, upTo, spread, spreads, mostOver, most-over}
 use Rattle.facts.proofs.Bounded.{fitting, pages, start-within, header-within}
+use Rattle.facts.proofs.Alongs.{along-both}
 use Rattle.facts.proofs.Fits.{fits-block}
+use Rattle.facts.proofs.Unmet.{unmet}
+use Rattle.facts.proofs.Uses.{header-unmet}
 
 everything : ℕ → ℕ → ℕ → Bool
 everything j a z = true
@@ -123,11 +127,16 @@ codes-most : (mostOver FSNROFFST 6 ≡ 15) × (mostOver FGAINCOD 6 ≡ 7) × (mo
 unfolding mostOver most mostIn bounds
 codes-most = (refl, refl, refl, refl, refl, refl)
 
-codes-fit : (m : List ℕ) → Within m → CodesFit m
+ranges-fit : (m : List ℕ) → Within m → EndsFit m → RangesFit m
 unfolding most mostIn bounds
-codes-fit m w = record {
-  channels = w .below NFCHANS;
-  coupling-ends = w .below CPLEND;
+ranges-fit m w e = record { channels = w .below NFCHANS; ends = e .channels; coupling-ends = w .below CPLEND; coupling = e .coupling }
+
+codes-fit : (es : List Entry) (m : List ℕ) → Within m → Ready es m → CodesFit m
+unfolding most mostIn bounds
+codes-fit es m w r = record {
+  ranges = ranges-fit m w (r .ends);
+  some = r .some;
+  rate = r .rate;
   parameters = (w .below SDCYCOD, w .below FDCYCOD, w .below SGAINCOD, w .below DBPBCOD, w .below FLOORCOD);
   coarse = let z = w .below CSNROFFST in omega arith;
   fine = λ slot h. (over FSNROFFST 6 slot (omega arith) 15 (codes-most .0), over FGAINCOD 6 slot (omega arith) 7 (codes-most .1));
@@ -139,31 +148,35 @@ codes-fit m w = record {
     over : (k n i : ℕ) → i ≤ n → (x : ℕ) → mostOver k n ≡ x → cellOf m (k + i) ≤ x
     over k n i h x e = omega (arith, w .below (k + i), most-over k n (k + i) (omega arith) (omega arith))
 
-in-range : (i : Item) (st : State) (p : ℕ) (es : List Entry) → inRange i ≡ true → Within (st .cells) → Unclamped i st p es
+-- with what was shown of allocations and mantissas
+abbrev Rest : Item → Point
+Rest i st p es = Unmet i st p es → Unclamped i st p es
+
+in-range : (i : Item) (st : State) (p : ℕ) (es : List Entry) → inRange i ≡ true → Within (st .cells) → Rest i st p es
 unfolding inRange
-in-range (element name i b a) st p es h w = let t = both (part i) (place a) h in (part-fits (st .cells) w i (t .0), placed (st .cells) w a (t .1))
-in-range (elements name i b a k f n) st p es h w = λ j d.
+in-range (element name i b a) st p es h w u = let t = both (part i) (place a) h in (part-fits (st .cells) w i (t .0), placed (st .cells) w a (t .1))
+in-range (elements name i b a k f n) st p es h w u = λ j d.
     let t = both (may everything k 0 0 (most n - 1)) (part i && place a) h in
-    let u = both (part i) (place a) (t .1) in
+    let v = both (part i) (place a) (t .1) in
     let c = w .below n in
     let g = puts everything (st .cells) k j k 0 0 (most n - 1) w (t .0) (omega arith) (omega arith) (omega arith) (omega arith) .within in
-    (part-fits (putIn (st .cells) k j) g i (u .0), placed (putIn (st .cells) k j) g a (u .1))
-in-range (span name k) st p es h w = part-fits (st .cells) w none h
-in-range (mantissas name a) st p es h w = let t = both (part none) (place a) h in (part-fits (st .cells) w none (t .0), placed (st .cells) w a (t .1))
-in-range (exponents s name i) st p es h w =
+    (part-fits (putIn (st .cells) k j) g i (v .0), placed (putIn (st .cells) k j) g a (v .1))
+in-range (span name k) st p es h w u = part-fits (st .cells) w none h
+in-range (mantissas name a) st p es h w u = let t = both (part none) (place a) h in (part-fits (st .cells) w none (t .0), placed (st .cells) w a (t .1), ranges-fit (st .cells) w u)
+in-range (exponents s name i) st p es h w u =
     let t = both (part i) (ltb (s .number + most (s .cell)) 7 && ltb (most ABSEXP) 16) h in
-    let u = both (ltb (s .number + most (s .cell)) 7) (ltb (most ABSEXP) 16) (t .1) in (
+    let v = both (ltb (s .number + most (s .cell)) 7) (ltb (most ABSEXP) 16) (t .1) in (
       part-fits (st .cells) w i (t .0),
-      omega (arith, w .below (s .cell), ltb-true (s .number + most (s .cell)) 7 (u .0)),
-      omega (arith, w .below ABSEXP, ltb-true (most ABSEXP) 16 (u .1)),
+      omega (arith, w .below (s .cell), ltb-true (s .number + most (s .cell)) 7 (v .0)),
+      omega (arith, w .below ABSEXP, ltb-true (most ABSEXP) 16 (v .1)),
     )
-in-range (when c b) st p es h w = condition-placed (st .cells) w c h
-in-range (each k i n b) st p es h w = count-placed (st .cells) w n h
-in-range (reject c n) st p es h w = condition-placed (st .cells) w c h
-in-range (reject-at c n k) st p es h w = condition-placed (st .cells) w c h
-in-range (put a v) st p es h w = let t = both (place a) (value v) h in (placed (st .cells) w a (t .0), value-placed (st .cells) w v (t .1))
-in-range (fill k n x y a) st p es h w = let t = both (leb (k + n) 1024) (place a) h in (leb-true (k + n) 1024 (t .0), placed (st .cells) w a (t .1))
-in-range (derive k) st p es h w = λ _. codes-fit (st .cells) w
+in-range (when c b) st p es h w u = condition-placed (st .cells) w c h
+in-range (each k i n b) st p es h w u = count-placed (st .cells) w n h
+in-range (reject c n) st p es h w u = condition-placed (st .cells) w c h
+in-range (reject-at c n k) st p es h w u = condition-placed (st .cells) w c h
+in-range (put a v) st p es h w u = let t = both (place a) (value v) h in (placed (st .cells) w a (t .0), value-placed (st .cells) w v (t .1))
+in-range (fill k n x y a) st p es h w u = let t = both (leb (k + n) 1024) (place a) h in (leb-true (k + n) 1024 (t .0), placed (st .cells) w a (t .1))
+in-range (derive k) st p es h w u = λ e. codes-fit es (st .cells) w (u e)
 
 -- the test of the pages
 all-in-range : (fitting inRange everything header ≡ true) × (fitting inRange everything body ≡ true)
@@ -171,12 +184,13 @@ unfolding fitting inRange part place number condition value count everything hea
 all-in-range = (refl, refl)
 
 module _ (s : List ℕ) (l : ℕ) where
-  unclamped-by : (b : Block) → fitting inRange everything b ≡ true → (st : State) (p : ℕ) (es : List Entry) → Within (st .cells) → Along s l Unclamped b st p es
+  unclamped-by : (b : Block) → fitting inRange everything b ≡ true → (st : State) (p : ℕ) (es : List Entry) → Within (st .cells) → Along s l Unmet b st p es → Along s l Unclamped b st p es
   unfolding fitting
-  unclamped-by b h st p es w = fits-block inRange s l Unclamped in-range everything b [] h st p es w tt .along
+  unclamped-by b h st p es w u =
+      along-both s l Rest Unmet Unclamped (λ i st p es f k. f k) b st p es (fits-block inRange s l Rest in-range everything b [] h st p es w tt .along) u
 
 pub nothing-clamped : NothingClamped
 nothing-clamped = record {
-  in-header = λ s. unclamped-by s 48 header (all-in-range .0) start 0 [] start-within;
-  in-body = λ s h e. unclamped-by s _ body (all-in-range .1) h _ _ (header-within s h e);
+  in-header = λ s. unclamped-by s 48 header (all-in-range .0) start 0 [] start-within (header-unmet s 48);
+  in-body = λ s h e. unclamped-by s _ body (all-in-range .1) h _ _ (header-within s h e) (unmet s h e);
 }

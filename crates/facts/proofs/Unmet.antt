@@ -7,8 +7,8 @@ use Prim.Native.Nat.{ℕ, zero, suc, _+_, _%_, _≤_, _<_}
 use native.Mathlib.Omega.{arith}
 use Rattle.names.specs.Names.{frmcsnroffst}
 use Rattle.reading.specs.Run.{Entry}
-use Rattle.cells.specs.Cells.{State, cellOf, putIn, stored, heldOf}
-use Rattle.cells.specs.Names.{BLK, CHBWCOD, CPL-SUBND-END, CPLBEGF, CPLINUS, CPLSTRE, FIRSTCPLLEAK, NUMBLKS, SNROFFSTSTR}
+use Rattle.cells.specs.Cells.{State, cellOf, putIn, stored, placeOf, heldOf}
+use Rattle.cells.specs.Names.{BLK, CHBWCOD, CPL-SUBND-END, CPLBEGF, CPLINUS, CPLSTRE, FIRSTCPLLEAK, FSCOD, NFCHANS, NUMBLKS, SNROFFSTSTR, TAGS}
 use Rattle.derivations.specs.Allocating.{freshBy, allocateIn}
 use Rattle.derivations.specs.Derivations.{Allocation, Fresh, derived}
 use Rattle.rows.specs.Syntax.{Block, _⧺_, cell}
@@ -17,20 +17,20 @@ use Rattle.annex.specs.Audfrm.{flags, coupling, strategies, hybrid, offsets, au
 use Rattle.annex.specs.Audblk.{dynamics, spx-strategy, spx-coordinates, cpl-strategy, cpl-coordinates, rematrixing, bandwidth, exponents-of-block, parameters, deltas, skip-field, quantized, audblk}
 use Rattle.annex.specs.Annex.{audblks, body}
 use Rattle.facts.specs.Along.{Point}
-use Rattle.facts.specs.Bounds.{bounds, mostIn, most, Within}
+use Rattle.facts.specs.Bounds.{tagsMost, bounds, mostIn, most, Within}
 use Rattle.facts.specs.Unmet.{Offsets, Ready, Unmet, NoneMet}
 use Rattle.cells.proofs.Cells.{put-sized}
 use Rattle.facts.proofs.Cells.{cell-zero, cell-at, cell-beside}
-use Rattle.facts.proofs.Bounds.{both, may, Changed, puts}
+use Rattle.facts.proofs.Bounds.{both, may, Changed, changed-then, puts}
 use Rattle.facts.proofs.Bounded.{header-within}
 use Rattle.facts.proofs.Derived.{fitsFresh, fresh-changes}
 use Rattle.facts.proofs.Exponents.{afterExponents, after-exponents, exponents-through, after-through, fewer, blk-same, str-same, coupling-stays, channels-stay, lfe-stays, covered, Covered}
-use Rattle.facts.proofs.Ranges.{throughBlock, early, settled, early-through, settled-through, exponents-settled, cplinu-same, Settled, Unsettled, Ranged, unsettled-stays, settled-stays, block-same, through-same, settled-kept}
+use Rattle.facts.proofs.Ranges.{throughBlock, early, settled, early-through, settled-through, exponents-settled, cplinu-same, Settled, Unsettled, Ranged, unsettled-stays, settled-stays, block-same, through-same, settled-kept, ranged-stays, ends-fit, Rated, rated-stays, rated-through, rated-kept, throughExponents}
 use Rattle.facts.proofs.Bandwidth.{Strategy, strategy-walk, Bandwidth, bandwidth-walk}
-use Rattle.facts.proofs.Uses.{unset, uses, Unset, unset-stays, Linked, linked-stays, Uses, uses-stay, header-unset, uses-walk, numblks-most}
-use Rattle.facts.proofs.Leaves.{Ranges, leaves, leavesUnsent, unsent-fewer, passes, unsent-leaves, unsent-same, held-cell, is-false, whole, element-by}
+use Rattle.facts.proofs.Uses.{unset, uses, Unset, unset-stays, Linked, linked-stays, Uses, uses-stay, Blank, header-blank, bsi-walk, uses-walk, numblks-most}
+use Rattle.facts.proofs.Leaves.{Ranges, leaves, leavesUnsent, unsent-fewer, passes, unsent-leaves, unsent-same, firstItems, afterItems, place-cell, held-cell, is-false, skip, whole, element-by}
 use Rattle.facts.proofs.Sent.{offsets-grow, leaks-grow, LeaksIfSent, leaks-stay, Before, parameters-walked}
-use Rattle.facts.proofs.Walking.{Grows, grows-refl, Walks, walks-next, walks-map, walks-append, walked-when, walked-derive, walked-each}
+use Rattle.facts.proofs.Walking.{Grows, grows-refl, grows-trans, Walks, walks-next, walks-map, walks-append, walked-mantissas, walked-when, walked-derive, walked-each}
 
 module _ (s : List ℕ) (l : ℕ) where
   -- the block j of n
@@ -38,6 +38,7 @@ module _ (s : List ℕ) (l : ℕ) where
     linked : Linked n m
     few : n ≤ 6
     number : cellOf m BLK ≡ j
+    rated : Rated m
 
   numbered-stays : (n j : ℕ) (x y : List ℕ) → Changed (leavesUnsent throughBlock) x y → Numbered n j x → Numbered n j y
   unfolding throughBlock
@@ -45,6 +46,7 @@ module _ (s : List ℕ) (l : ℕ) where
     linked = linked-stays n x y (c .few) (λ k a b. unsent-same throughBlock x y k g (omega arith) (inr (inr (inl (a, b))))) (c .linked);
     few = c .few;
     number = blk-same x y (unsent-leaves throughBlock x y g) ∙ c .number;
+    rated = rated-through x y g (c .rated);
   }
 
   -- what holds all through it
@@ -131,6 +133,7 @@ module _ (s : List ℕ) (l : ℕ) where
   record Allocating (n j : ℕ) (es : List Entry) (m : List ℕ) : Type 0 where
     within : Within m
     ready : Ready es m
+    ranged : Ranged m
     leaks : LeaksIfSent es m
     numbered : Numbered n j m
     settled-now : Settled m
@@ -153,7 +156,11 @@ module _ (s : List ℕ) (l : ℕ) where
           lfe = lfe-stays x y f (t .ready .lfe);
           offsets = offsets-grow es fs h (t .ready .offsets);
           leaks = λ e. leaks-grow es fs h (t .ready .leaks (sym (cplinu-same x y (fewer x y f)) ∙ e));
+          rate = rated-kept x y (fewer x y f) (t .numbered .rated) .rate;
+          some = rated-kept x y (fewer x y f) (t .numbered .rated) .some;
+          ends = ends-fit y (ranged-stays x y (fewer x y f) (t .ranged));
         };
+        ranged = ranged-stays x y (fewer x y f) (t .ranged);
         leaks = leaks-stay afterExponents x y es fs g h (t .leaks);
         numbered = numbered-stays n j x y (after-through x y g) (t .numbered);
         settled-now = settled-stays x y (exponents-settled x y (after-exponents x y g)) (t .settled-now);
@@ -163,19 +170,36 @@ module _ (s : List ℕ) (l : ℕ) where
   unfolding derived allocateIn
   allocated-cells st = refl
 
+  may-tags : may (leavesUnsent settled) TAGS 0 0 tagsMost ≡ true
+  unfolding passes settled
+  may-tags = refl
+
   quantized-walk : (n j : ℕ) (st : State) (p : ℕ) (es : List Entry) → Allocating n j es (st .cells) → Walks s l Unmet quantized st p es (λ a q fs. AfterBlock n j fs (a .cells))
-  unfolding quantized passes settled
+  unfolding quantized firstItems afterItems passes settled throughExponents
   quantized-walk n j st p es c =
       walks-next s l Unmet _ _ st p es {M = λ a q fs. Allocating n j fs (a .cells)} (λ _. c .ready)
       (walked-derive s l Unmet Allocation st p es (λ _. subst (Allocating n j es) (sym (allocated-cells st)) c))
-      (λ a q fs d. whole s l (leavesUnsent settled) _ refl a q fs (d .within)
-      (λ b r gs g h. record {
+      (λ a q fs d. skip s l (leavesUnsent throughExponents) 1 _ refl a q fs (d .within)
+      (λ x u hs f i. walks-next s l Unmet _ _ x u hs {M = λ y v is. Changed (leavesUnsent settled) (a .cells) (y .cells) × Grows fs is}
+      (ends-fit (x .cells) (ranged-stays (a .cells) (x .cells) (unsent-leaves throughExponents (a .cells) (x .cells) f) (d .ranged)))
+      (walked-mantissas s l Unmet _ (cell TAGS) x u hs
+      (λ v w is t k.
+      let e = place-cell TAGS (x .cells) in (
+        changed-then (leavesUnsent settled) (a .cells) (x .cells) (putIn (x .cells) (placeOf (cell TAGS) (x .cells)) v) (exponents-settled (a .cells) (x .cells) f)
+            (puts (leavesUnsent settled) (x .cells) (placeOf (cell TAGS) (x .cells)) v TAGS 0 0 tagsMost (f .within) may-tags (omega arith) (omega arith) (omega arith) (omega arith)),
+        grows-trans fs hs is i k,
+      )))
+      (λ y v is m. whole s l (leavesUnsent settled) _ refl y v is (m .0 .within)
+      (λ b r gs g2 h2.
+      let g : Changed (leavesUnsent settled) (a .cells) (b .cells) = changed-then (leavesUnsent settled) (a .cells) (y .cells) (b .cells) (m .0) g2 in
+      let h : Grows fs gs = grows-trans fs is gs (m .1) h2 in
+      record {
         within = g .within;
         offsets = offsets-grow fs gs h (d .ready .offsets);
         leaks = leaks-stay settled (a .cells) (b .cells) fs gs g h (d .leaks);
         numbered = numbered-stays n j (a .cells) (b .cells) (settled-through (a .cells) (b .cells) g) (d .numbered);
         settled-now = settled-stays (a .cells) (b .cells) g (d .settled-now);
-      }))
+      }))))
 
   -- the parameters after the exponents, which may put FIRSTCPLLEAK
   numbered-after : (n j : ℕ) (x y : List ℕ) → Changed (leaves afterExponents) x y → Numbered n j x → Numbered n j y
@@ -183,11 +207,12 @@ module _ (s : List ℕ) (l : ℕ) where
     linked = linked-stays n x y (c .few) (λ k a b. through-same x y (fewer x y g) k a b) (c .linked);
     few = c .few;
     number = block-same x y (fewer x y g) ∙ c .number;
+    rated = rated-kept x y (fewer x y g) (c .rated);
   }
 
-  parameters-walk : (n j : ℕ) (c : Block) (x : State) (xs : List Entry) (st : State) (p : ℕ) (es : List Entry) → SettledBlock n j es (st .cells) → Covered s l x xs st p es → {R : Point}
+  parameters-walk : (n j : ℕ) (c : Block) (x : State) (xs : List Entry) (st : State) (p : ℕ) (es : List Entry) → SettledBlock n j es (st .cells) → Ranged (st .cells) → Covered s l x xs st p es → {R : Point}
       → ((a : State) (q : ℕ) (fs : List Entry) → Allocating n j fs (a .cells) → Walks s l Unmet c a q fs R) → Walks s l Unmet (parameters ⧺ c) st p es R
-  parameters-walk n j c x xs st p es g d k =
+  parameters-walk n j c x xs st p es g ranged d k =
       walks-append s l Unmet parameters c st p es {M = λ a q fs. Allocating n j fs (a .cells)}
       (walks-map s l Unmet
       (λ a q fs t.
@@ -200,7 +225,11 @@ module _ (s : List ℕ) (l : ℕ) where
           lfe = lfe-stays (st .cells) (a .cells) f (d .lfe);
           offsets = t .offsets;
           leaks = t .after-leaks .leaks;
+          rate = rated-kept (st .cells) (a .cells) (fewer (st .cells) (a .cells) f) (g .block .numbered .rated) .rate;
+          some = rated-kept (st .cells) (a .cells) (fewer (st .cells) (a .cells) f) (g .block .numbered .rated) .some;
+          ends = ends-fit (a .cells) (ranged-stays (st .cells) (a .cells) (fewer (st .cells) (a .cells) f) ranged);
         };
+        ranged = ranged-stays (st .cells) (a .cells) (fewer (st .cells) (a .cells) f) ranged;
         leaks = t .after-leaks .if-sent;
         numbered = numbered-after n j (st .cells) (a .cells) f (g .block .numbered);
         settled-now = settled-kept (st .cells) (a .cells) (fewer (st .cells) (a .cells) f) (g .settled-now);
@@ -214,7 +243,8 @@ module _ (s : List ℕ) (l : ℕ) where
   unfolding joined late
   exponents-walk n j a q fs g ranged =
       walks-append s l Unmet exponents-of-block _ a q fs (covered s l a q fs (g .block .within) ranged)
-      (λ b r gs d. parameters-walk n j _ a fs b r gs (settled-block-stays n j (a .cells) (b .cells) fs gs (exponents-settled (a .cells) (b .cells) (d .since .changed)) (d .since .grows) g) d
+      (λ b r gs d. parameters-walk n j _ a fs b r gs (settled-block-stays n j (a .cells) (b .cells) fs gs (exponents-settled (a .cells) (b .cells) (d .since .changed)) (d .since .grows) g)
+      (ranged-stays (a .cells) (b .cells) (unsent-leaves throughExponents (a .cells) (b .cells) (d .since .changed)) ranged) d
       (λ c u hs t. pass afterExponents (Allocating n j) (λ _ _ i. i .within) (allocating-stays n j) late quantized pass-late c u hs t (λ e v is f. quantized-walk n j e v is f)))
 
   block-walk : (n j : ℕ) (st : State) (p : ℕ) (es : List Entry) → EarlyBlock n j es (st .cells) → Walks s l Unmet audblk st p es (λ a q fs. AfterBlock n j fs (a .cells))
@@ -233,6 +263,7 @@ module _ (s : List ℕ) (l : ℕ) where
     leaks : LeaksIfSent fs (a .cells)
     sent : Offsets fs ⊎ ((j ≡ 0) × ¬ (cellOf (a .cells) SNROFFSTSTR ≡ 0))
     linked : Linked n (a .cells)
+    rated : Rated (a .cells)
     coded : (ch : ℕ) → ch < 5 → cellOf (a .cells) (CHBWCOD + ch) ≤ 60
     coupled : (c : ℕ) → j ≡ suc c → cellOf (a .cells) (CPLINUS + c) ≡ 1 → cellOf (a .cells) CPLBEGF < cellOf (a .cells) CPL-SUBND-END
 
@@ -260,7 +291,7 @@ module _ (s : List ℕ) (l : ℕ) where
           within = g .within;
           before = before m blk (same SNROFFSTSTR (omega arith) (λ z. omega arith)) (t .sent);
           leaks = leaks-stay strategyOfOffsets (a .cells) m fs fs g (grows-refl fs) (t .leaks);
-          numbered = record { linked = linked-stays n (a .cells) m few (λ k b c. same k (omega arith) (λ z. omega arith)) (t .linked); few = few; number = blk };
+          numbered = record { linked = linked-stays n (a .cells) m few (λ k b c. same k (omega arith) (λ z. omega arith)) (t .linked); few = few; number = blk; rated = rated-stays (a .cells) m (same FSCOD (omega arith) (λ z. omega arith)) (same NFCHANS (omega arith) (λ z. omega arith)) (t .rated) };
         };
         unsettled = record {
           coded = λ ch h. rw (same (CHBWCOD + ch) (omega arith) (λ z. omega arith)) (t .coded ch h);
@@ -287,6 +318,7 @@ module _ (s : List ℕ) (l : ℕ) where
         leaks = d .leaks;
         sent = inl (d .offsets);
         linked = d .numbered .linked;
+        rated = d .numbered .rated;
         coded = d .settled-now .coded;
         coupled = λ c e y. d .settled-now .coupled (d .settled-now .last ∙ ap (λ k. cellOf (b .cells) (CPLINUS + k)) (d .numbered .number ∙ (let z : j ≡ c = omega arith in z)) ∙ y);
       }
@@ -312,6 +344,7 @@ module _ (s : List ℕ) (l : ℕ) where
         leaks = c .leaks;
         sent = begins (c .sent);
         linked = subst (λ i. Linked i (st .cells)) (sym (held-cell NUMBLKS (st .cells))) (c .uses-now .linked);
+        rated = c .uses-now .rated;
         coded = c .uses-now .coded;
         coupled = λ i e. absurd (let z : ⊥ = omega (arith, cell-zero (st .cells)) in z);
       })
@@ -407,10 +440,6 @@ module _ (s : List ℕ) (l : ℕ) where
   unfolding allPass middle passes uses strategies hybrid
   pass-middle = refl
 
-  pass-bsi : passes (leavesUnsent unset) bsi ≡ true
-  unfolding passes unset mixdef3 mixing-metadata informational-metadata bsi
-  pass-bsi = refl
-
   frame-walk : (st : State) (p : ℕ) (es : List Entry) → Within (st .cells) → Unset (st .cells) → Walks s l Unmet audfrm st p es (λ a q fs. Framed fs (a .cells))
   unfolding audfrm joined middle
   frame-walk st p es w u =
@@ -420,13 +449,12 @@ module _ (s : List ℕ) (l : ℕ) where
       (record { begun = begun-stays [] (a .cells) (b .cells) fs gs (d .changed) (d .grows) (c .0); uses-now = d .uses-now })
       (λ e v hs f. offsets-walk e v hs f)))
 
-  body-walk : (st : State) (p : ℕ) (es : List Entry) → Within (st .cells) → Unset (st .cells) → Walks s l Unmet body st p es Anything
+  body-walk : (st : State) (p : ℕ) (es : List Entry) → Within (st .cells) → Blank (st .cells) → Walks s l Unmet body st p es Anything
   unfolding body
   body-walk st p es w u =
-      walks-append s l Unmet bsi _ st p es {M = λ a q fs. Within (a .cells) × Unset (a .cells)}
-      (whole s l (leavesUnsent unset) bsi pass-bsi st p es w (λ a q fs g h. (g .within, unset-stays (st .cells) (a .cells) g u)))
-      (λ a q fs w. walks-append s l Unmet audfrm _ a q fs (frame-walk a q fs (w .0) (w .1)) (λ b r gs c. blocks-walk b r gs c))
+      walks-append s l Unmet bsi _ st p es (bsi-walk s l st p es w u)
+      (λ a q fs w. walks-append s l Unmet audfrm _ a q fs (frame-walk a q fs (w .within) (w .unset-now)) (λ b r gs c. blocks-walk b r gs c))
 
 -- whatever the buffer: wherever the reading of its body comes, the tests that were left out are not met
 pub unmet : NoneMet
-unmet s h e = body-walk s _ h _ _ (header-within s h e) (header-unset s 48 h e) .along
+unmet s h e = body-walk s _ h _ _ (header-within s h e) (header-blank s 48 h e) .along

@@ -1,32 +1,45 @@
 -- The use of coupling by block, as the frame says it: a block that sends no strategy is coupled as the block before it. Assumes nothing.
 use mathlib.Core.Path.{_≡_, refl, ap, sym, _∙_, subst}
-use mathlib.Core.Bool.{true, false}
+use mathlib.Core.Bool.{Bool, true, false, _&&_}
 use mathlib.Core.List.{List, [], _∷_}
 use mathlib.Core.Logic.{_⊎_, inl, inr, by-cases}
 use Prim.Native.Nat.{ℕ, zero, suc, _+_, _-_, _*_, _%_, _^_, _≤_, _<_}
 use native.Mathlib.Omega.{arith}
 use native.Mathlib.Decide.{ℕ-discrete}
-use borrow.Author.Tests.{eqb-true, eqb-false}
+use lib.Dec.{leb}
+use lib.ListN.{length, getD}
+use borrow.Author.Tests.{eqb-true, eqb-false, leb-true}
+use Rattle.tables.specs.Small.{nfchans}
 use Rattle.reading.specs.Run.{Entry, accepted, run}
 use Rattle.cells.specs.Cells.{State, cellOf, putIn, stored, placeOf, heldOf}
-use Rattle.cells.specs.Names.{BLK, CHBWCOD, CPLINUS, CPLSTRE, NUMBLKS}
+use Rattle.cells.specs.Names.{ACMOD, BLK, CHBWCOD, CPLINUS, CPLSTRE, FSCOD, NFCHANS, NUMBLKS}
+use Rattle.derivations.specs.Frames.{nfchansBy}
+use Rattle.derivations.specs.Derivations.{Nfchans, derived}
 use Rattle.rows.specs.Syntax.{Is, Let, cell, at, holdsOf, meaning}
 use Rattle.annex.specs.Syncinfo.{syncinfo}
+use Rattle.annex.specs.Bsi.{mixdef3, mixing-metadata, informational-metadata, bsi}
 use Rattle.annex.specs.Audfrm.{coupling}
 use Rattle.annex.specs.Annex.{header}
 use Rattle.annex.specs.Frame.{start}
-use Rattle.facts.specs.Along.{Point}
+use Rattle.facts.specs.Along.{Point, Along}
 use Rattle.facts.specs.Bounds.{bounds, mostIn, most, Within}
 use Rattle.facts.specs.Unmet.{Unmet}
 use Rattle.cells.proofs.Cells.{cell-none}
 use Rattle.facts.proofs.Cells.{cell-zero, cell-at, cell-beside}
-use Rattle.facts.proofs.Bounds.{word, may, Changed, changed-none, changed-then, puts, none-within}
-use Rattle.facts.proofs.Leaves.{Ranges, leavesUnsent, passes, unsent-same, unsent-fewer, firstItems, afterItems, inner, place-cell, place-at, held-cell, skip, whole, put-by, number-by}
-use Rattle.facts.proofs.Walking.{Grows, grows-refl, grows-trans, Walks, walks-next, walks-end, walks-map, walked-element, walked-when, walked-each}
+use Rattle.facts.proofs.Bounds.{both, word, may, Changed, changed-none, changed-then, puts, none-within}
+use Rattle.facts.proofs.Derived.{fitsDerived, derived-changes, nfchans-most}
+use Rattle.facts.proofs.Exponents.{passed}
+use Rattle.facts.proofs.Ranges.{Rated, rated-stays}
+use Rattle.facts.proofs.Leaves.{Ranges, leavesUnsent, passes, unsent-same, unsent-fewer, unsent-none, firstItems, afterItems, inner, place-cell, place-at, held-cell, is-false, skip, whole, put-by, number-by}
+use Rattle.facts.proofs.Walking.{Grows, grows-refl, grows-trans, Walks, walks-next, walks-end, walks-map, walked-element, walked-when, walked-derive, walked-each}
 
 -- the cells of the uses, and the bandwidth codes
+unfoldable pub blank : Ranges
+blank = (CPLSTRE, CPLINUS + 5) ∷ (CHBWCOD, CHBWCOD + 4) ∷ []
+
+-- and the sample rate and the number of channels
 unfoldable pub unset : Ranges
-unset = (CPLSTRE, CPLINUS + 5) ∷ (CHBWCOD, CHBWCOD + 4) ∷ []
+unset = (CPLSTRE, CPLINUS + 5) ∷ (CHBWCOD, CHBWCOD + 4) ∷ (FSCOD, FSCOD) ∷ (NFCHANS, NFCHANS) ∷ []
 
 -- and the number of blocks
 unfoldable pub uses : Ranges
@@ -34,15 +47,29 @@ unfolding unset
 uses = (NUMBLKS, NUMBLKS) ∷ unset
 
 -- nothing of them is sent yet
+pub record Blank (m : List ℕ) : Type 0 where
+  pub none : (j : ℕ) → CPLSTRE ≤ j → j ≤ CPLINUS + 5 → cellOf m j ≡ 0
+  pub coded : (ch : ℕ) → ch < 5 → cellOf m (CHBWCOD + ch) ≤ 60
+
+pub blank-stays : (x y : List ℕ) → Changed (leavesUnsent blank) x y → Blank x → Blank y
+unfolding blank
+blank-stays x y g u = record {
+  none = λ j h k. unsent-same blank x y j g (omega arith) (inl (h, k)) ∙ u .none j h k;
+  coded = λ ch h. rw (unsent-same blank x y (CHBWCOD + ch) g (omega arith) (inr (inl (omega arith, omega arith)))) (u .coded ch h);
+}
+
+-- but the sample rate and the channels are
 pub record Unset (m : List ℕ) : Type 0 where
   pub none : (j : ℕ) → CPLSTRE ≤ j → j ≤ CPLINUS + 5 → cellOf m j ≡ 0
   pub coded : (ch : ℕ) → ch < 5 → cellOf m (CHBWCOD + ch) ≤ 60
+  pub rated : Rated m
 
 pub unset-stays : (x y : List ℕ) → Changed (leavesUnsent unset) x y → Unset x → Unset y
 unfolding unset
 unset-stays x y g u = record {
   none = λ j h k. unsent-same unset x y j g (omega arith) (inl (h, k)) ∙ u .none j h k;
   coded = λ ch h. rw (unsent-same unset x y (CHBWCOD + ch) g (omega arith) (inr (inl (omega arith, omega arith)))) (u .coded ch h);
+  rated = rated-stays x y (unsent-same unset x y FSCOD g (omega arith) (inr (inr (inl (omega arith, omega arith))))) (unsent-same unset x y NFCHANS g (omega arith) (inr (inr (inr (inl (omega arith, omega arith)))))) (u .rated);
 }
 
 -- the first block sends a strategy if it is coupled; each other one of n blocks, or the one before it is coupled
@@ -60,6 +87,7 @@ linked-stays n x y b e u = record {
 pub record Uses (m : List ℕ) : Type 0 where
   pub linked : Linked (cellOf m NUMBLKS) m
   pub coded : (ch : ℕ) → ch < 5 → cellOf m (CHBWCOD + ch) ≤ 60
+  pub rated : Rated m
 
 pub numblks-most : most NUMBLKS ≡ 6
 unfolding most mostIn bounds
@@ -73,20 +101,26 @@ uses-stay x y g u =
     record {
       linked = linked-stays (cellOf y NUMBLKS) x y b (λ j h k. unsent-same uses x y j g (omega arith) (inr (inl (h, k)))) (subst (λ i. Linked i x) (sym n) (u .linked));
       coded = λ ch h. rw (unsent-same uses x y (CHBWCOD + ch) g (omega arith) (inr (inr (inl (omega arith, omega arith))))) (u .coded ch h);
+      rated = rated-stays x y (unsent-same uses x y FSCOD g (omega arith) (inr (inr (inr (inl (omega arith, omega arith)))))) (unsent-same uses x y NFCHANS g (omega arith) (inr (inr (inr (inr (inl (omega arith, omega arith))))))) (u .rated);
     }
 
 module _ (s : List ℕ) (l : ℕ) where
   -- the header sends nothing of them
-  pub header-unset : (h : State) → run (meaning header start) s 0 l .result ≡ accepted h → Unset (h .cells)
-  unfolding header syncinfo passes unset start
-  header-unset h e =
-      whole s l (leavesUnsent unset) header refl start 0 [] none-within {R = λ a q fs. Unset (a .cells)}
-      (λ a q fs g _. unset-stays (start .cells) (a .cells) g (record { none = λ j _ _. cell-none j; coded = λ ch _. let z = cell-none (CHBWCOD + ch) in omega arith }))
+  pub header-blank : (h : State) → run (meaning header start) s 0 l .result ≡ accepted h → Blank (h .cells)
+  unfolding header syncinfo passes blank start
+  header-blank h e =
+      whole s l (leavesUnsent blank) header refl start 0 [] none-within {R = λ a q fs. Blank (a .cells)}
+      (λ a q fs g _. blank-stays (start .cells) (a .cells) g (record { none = λ j _ _. cell-none j; coded = λ ch _. let z = cell-none (CHBWCOD + ch) in omega arith }))
       .ends h e
+
+  -- and asks for nothing that was left out
+  pub header-unmet : Along s l Unmet header start 0 []
+  unfolding header syncinfo passes start
+  header-unmet = whole s l (leavesUnsent []) header refl start 0 [] none-within {R = λ a q fs. Unit {0}} (λ a q fs g _. tt) .along
 
   -- what the section leaves: the number of blocks and the codes; and its first flag
   kept : Ranges
-  kept = (NUMBLKS, NUMBLKS) ∷ (CHBWCOD, CHBWCOD + 4) ∷ []
+  kept = (NUMBLKS, NUMBLKS) ∷ (CHBWCOD, CHBWCOD + 4) ∷ (FSCOD, FSCOD) ∷ (NFCHANS, NFCHANS) ∷ []
 
   flagged : Ranges
   unfolding kept
@@ -228,13 +262,10 @@ module _ (s : List ℕ) (l : ℕ) where
     unfolding kept
     codes-same ch h = unsent-same kept (st .cells) (a .cells) (CHBWCOD + ch) g (omega arith) (inr (inl (omega arith, omega arith)))
 
-    kept-none : Changed (leavesUnsent []) (st .cells) (a .cells)
+    rated-same : Rated (st .cells) → Rated (a .cells)
     unfolding kept
-    kept-none = unsent-fewer _ _ (st .cells) (a .cells) (unsent-fewer _ _ (st .cells) (a .cells) g)
-
-  uses-none : (x y : List ℕ) → Changed (leavesUnsent uses) x y → Changed (leavesUnsent []) x y
-  unfolding uses
-  uses-none x y g = unsent-fewer _ _ x y (unsent-fewer _ _ x y (unsent-fewer _ _ x y g))
+    rated-same = rated-stays (st .cells) (a .cells) (unsent-same kept (st .cells) (a .cells) FSCOD g (omega arith) (inr (inr (inl (omega arith, omega arith)))))
+        (unsent-same kept (st .cells) (a .cells) NFCHANS g (omega arith) (inr (inr (inr (inl (omega arith, omega arith))))))
 
   -- all blocks
   counted : (st : State) (es : List Entry) (j : ℕ) (a : State) (q : ℕ) (fs : List Entry) → cellOf (a .cells) NUMBLKS ≤ j → To st es j a q fs → Counted st es a q fs
@@ -312,7 +343,87 @@ module _ (s : List ℕ) (l : ℕ) where
       }))
       (λ a q fs c. whole s l (leavesUnsent uses) _ refl a q fs (c .changed .within)
       (λ b r gs g h. record {
-        changed = changed-then (leavesUnsent []) (st .cells) (a .cells) (b .cells) (kept-none st a (c .changed)) (uses-none (a .cells) (b .cells) g);
+        changed = changed-then (leavesUnsent []) (st .cells) (a .cells) (b .cells) (unsent-none kept (st .cells) (a .cells) (c .changed)) (unsent-none uses (a .cells) (b .cells) g);
         grows = grows-trans es fs gs (c .grows) h;
-        uses-now = uses-stay (a .cells) (b .cells) g (record { linked = c .linked; coded = λ ch i. rw (codes-same st a (c .changed) ch i) (u .coded ch i) });
+        uses-now = uses-stay (a .cells) (b .cells) g (record { linked = c .linked; coded = λ ch i. rw (codes-same st a (c .changed) ch i) (u .coded ch i); rated = rated-same st a (c .changed) (u .rated) });
       }))
+
+-- acmod gives a channel at least
+allFrom : ℕ → List ℕ → Bool
+allFrom z [] = true
+allFrom z (v ∷ vs) = leb z v && allFrom z vs
+
+at-least : (z : ℕ) (vs : List ℕ) (i : ℕ) → allFrom z vs ≡ true → i < length vs → z ≤ getD vs i 0
+unfolding allFrom
+at-least z [] i h k = absurd (let o : ⊥ = omega arith in o)
+at-least z (v ∷ vs) zero h k = leb-true z v (both (leb z v) (allFrom z vs) h .0)
+at-least z (v ∷ vs) (suc i) h k = at-least z vs i (both (leb z v) (allFrom z vs) h .1) (omega arith)
+
+modes : (allFrom 1 nfchans ≡ true) × (length nfchans ≡ 8) × (most ACMOD ≡ 7)
+unfolding allFrom nfchans most mostIn bounds
+modes = (refl, refl, refl)
+
+module _ (s : List ℕ) (l : ℕ) where
+  -- bsi: the sample rate, then the channels
+  pub record AfterBsi (st : State) (es : List Entry) (a : State) (q : ℕ) (fs : List Entry) : Type 0 where
+    pub within : Within (a .cells)
+    pub unset-now : Unset (a .cells)
+
+  rateToo : Ranges
+  unfolding blank
+  rateToo = (FSCOD, FSCOD) ∷ blank
+
+  rate-blank : (x y : List ℕ) → Changed (leavesUnsent rateToo) x y → Changed (leavesUnsent blank) x y
+  unfolding rateToo
+  rate-blank x y g = unsent-fewer _ _ x y g
+
+  rate-same : (x y : List ℕ) → Changed (leavesUnsent rateToo) x y → cellOf y FSCOD ≡ cellOf x FSCOD
+  unfolding rateToo
+  rate-same x y g = unsent-same rateToo x y FSCOD g (omega arith) (inl (omega arith, omega arith))
+
+  pass-channels : fitsDerived (leavesUnsent rateToo) Nfchans ≡ true
+  unfolding passes rateToo
+  pass-channels = refl
+
+  channels-are : (st : State) → derived Nfchans st .st .cells ≡ nfchansBy (st .cells)
+  unfolding derived
+  channels-are st = refl
+
+  some-channel : (m : List ℕ) → Within m → 1 ≤ cellOf (nfchansBy m) NFCHANS
+  unfolding nfchansBy
+  some-channel m w =
+      let v = getD nfchans (cellOf m ACMOD) 0 in
+      let e = cell-at m NFCHANS v (w .sized) (omega arith) (omega arith) in
+      let a : 1 ≤ v = at-least 1 nfchans (cellOf m ACMOD) (modes .0) (omega (arith, w .below ACMOD, modes .1, modes .2)) in
+      let b : v ≤ 5 = nfchans-most (cellOf m ACMOD) in
+      omega arith
+
+  fscod-most : most FSCOD ≡ 3
+  unfolding most mostIn bounds
+  fscod-most = refl
+
+  pub bsi-walk : (st : State) (p : ℕ) (es : List Entry) → Within (st .cells) → Blank (st .cells) → Walks s l Unmet bsi st p es (AfterBsi st es)
+  unfolding bsi mixdef3 mixing-metadata informational-metadata firstItems afterItems passes unset rateToo
+  bsi-walk st p es w u =
+      skip s l (leavesUnsent blank) 1 _ refl st p es w
+      (λ a q fs g h. passed s l _ 5 _ a q fs (g .within)
+      (λ d.
+      let r : cellOf (a .cells) FSCOD < 3 = let z = is-false FSCOD 3 (a .cells) d in let y = g .within .below FSCOD in omega (arith, fscod-most) in
+      skip s l (leavesUnsent rateToo) 3 _ refl a q fs (g .within)
+      (λ b v gs i k.
+      let m = b .cells in
+      let x = derived Nfchans b .st .cells in
+      let c : Changed (leavesUnsent rateToo) m x = derived-changes (leavesUnsent rateToo) Nfchans b (i .within) pass-channels in
+      let f : Changed (leavesUnsent blank) (st .cells) x = changed-then (leavesUnsent blank) (st .cells) (a .cells) x g (changed-then (leavesUnsent blank) (a .cells) m x (rate-blank (a .cells) m i) (rate-blank m x c)) in
+      let o = blank-stays (st .cells) x f u in
+      walks-next s l Unmet _ _ b v gs {M = λ y r hs. Within (y .cells) × Unset (y .cells)} (λ e. absurd (let z : ⊥ = omega arith in z))
+      (walked-derive s l Unmet Nfchans b v gs
+      (λ _. (
+        c .within,
+        record {
+          none = o .none;
+          coded = o .coded;
+          rated = record { rate = rw (rate-same m x c, rate-same (a .cells) m i) r; some = rw (channels-are b) (some-channel m (i .within)) };
+        },
+      )))
+      (λ y n hs t. whole s l (leavesUnsent unset) _ refl y n hs (t .0) (λ z j is g h. record { within = g .within; unset-now = unset-stays (y .cells) (z .cells) g (t .1) })))))

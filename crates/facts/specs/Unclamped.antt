@@ -5,7 +5,7 @@ use mathlib.Core.List.{List, []}
 use Prim.Native.Nat.{ℕ, _+_, _*_, _≤_, _<_}
 use Rattle.reading.specs.Run.{accepted, run}
 use Rattle.cells.specs.Cells.{State, Addr, Sum, cellOf, putIn, placeOf, sumOf}
-use Rattle.cells.specs.Names.{ABSEXP, BLOCK, CPLEND, CPLFLEAK, CPLSLEAK, CSNROFFST, DBPBCOD, DELTBA, DELTLEN, DELTNSEG, DELTOFFST, FDCYCOD, FGAINCOD, FLOORCOD, FSNROFFST, NFCHANS, SDCYCOD, SGAINCOD}
+use Rattle.cells.specs.Names.{ABSEXP, BLOCK, CPLEND, CPLFLEAK, CPLINU, CPLSLEAK, CPLSTRT, CSNROFFST, DBPBCOD, DELTBA, DELTLEN, DELTNSEG, DELTOFFST, FDCYCOD, ENDMANT, FGAINCOD, FLOORCOD, FSCOD, FSNROFFST, NFCHANS, SDCYCOD, SGAINCOD}
 use Rattle.derivations.specs.Derivations.{Allocation}
 use Rattle.rows.specs.Syntax.{Number, Cell, Word, Cond, Is, Not, Above, Below, Among, Differs, Over, Under, AtLeast, Value, Here, Let, Less, Plus, Minus, Count, Fixed, Held, Item, element, elements, span, mantissas, exponents, when, each, reject, reject-at, put, fill, derive, none, meaning}
 use Rattle.annex.specs.Annex.{header, body}
@@ -46,10 +46,18 @@ abbrev pub CountPlaced : Count → List ℕ → Type 0
 CountPlaced (Fixed n) m = Unit {0}
 CountPlaced (Held a) m = Placed a m
 
+-- the bins of a block: at most five channels, no range ends past bin 253, and that of coupling has a bin
+pub record RangesFit (m : List ℕ) : Type 0 where
+  pub channels : cellOf m NFCHANS ≤ 5
+  pub ends : (ch : ℕ) → ch < cellOf m NFCHANS → cellOf m (ENDMANT + ch) ≤ 253
+  pub coupling-ends : cellOf m CPLEND ≤ 253
+  pub coupling : cellOf m CPLINU ≡ 1 → cellOf m CPLSTRT < cellOf m CPLEND
+
 -- what an allocation takes from the cells: the codes of its parameters, of the offsets, gains and leaks, and the delta segments
 pub record CodesFit (m : List ℕ) : Type 0 where
-  pub channels : cellOf m NFCHANS ≤ 5
-  pub coupling-ends : cellOf m CPLEND ≤ 253
+  pub ranges : RangesFit m
+  pub some : 1 ≤ cellOf m NFCHANS
+  pub rate : cellOf m FSCOD < 3
   pub parameters : (cellOf m SDCYCOD ≤ 3) × (cellOf m FDCYCOD ≤ 3) × (cellOf m SGAINCOD ≤ 3) × (cellOf m DBPBCOD ≤ 3) × (cellOf m FLOORCOD ≤ 7)
   pub coarse : cellOf m CSNROFFST ≤ 63
   pub fine : (slot : ℕ) → slot < 7 → (cellOf m (FSNROFFST + slot) ≤ 15) × (cellOf m (FGAINCOD + slot) ≤ 7)
@@ -62,7 +70,7 @@ abbrev pub Unclamped : Item → Point
 Unclamped (element name i w a) st p es = PartFits i (st .cells) × Placed a (st .cells)
 Unclamped (elements name i w a k f n) st p es = (j : ℕ) → j < cellOf (st .cells) n → PartFits i (putIn (st .cells) k j) × Placed a (putIn (st .cells) k j)
 Unclamped (span name k) st p es = PartFits none (st .cells)
-Unclamped (mantissas name a) st p es = PartFits none (st .cells) × Placed a (st .cells)
+Unclamped (mantissas name a) st p es = PartFits none (st .cells) × Placed a (st .cells) × RangesFit (st .cells)
 Unclamped (exponents s name i) st p es = PartFits i (st .cells) × (sumOf s (st .cells) < 7) × (cellOf (st .cells) ABSEXP < 16)
 Unclamped (when c b) st p es = CondPlaced c (st .cells)
 Unclamped (each k i n b) st p es = CountPlaced n (st .cells)

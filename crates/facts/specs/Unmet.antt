@@ -1,6 +1,6 @@
 -- The tests of the reference that no input meets, where it makes them: at the test of the coupling sub-bands, at a set of exponents, at the allocation of a
 -- block, and at its mantissas.
--- Proved in proofs/Unmet.antt and proofs/Pointed.antt.
+-- Proved in proofs/Unmet.antt, proofs/Pointed.antt and proofs/Visited.antt.
 use mathlib.Core.Path.{_≡_}
 use mathlib.Core.Bool.{Bool, true, false, cond}
 use mathlib.Core.List.{List}
@@ -12,10 +12,12 @@ use Rattle.reading.specs.Run.{Entry, accepted, run}
 use Rattle.slots.specs.Slots.{requestedOf, pointer}
 use Rattle.exponents.specs.Exponents.{sizeOf, groupsOf, firstOf}
 use Rattle.cells.specs.Cells.{State, Addr, cellOf, sumOf}
-use Rattle.cells.specs.Names.{CPL-SUBND-END, CPLEND, CPLINU, CPLSTRT, ENDMANT, HELDEND, HELDSTRT, LFEON, NFCHANS}
+use Rattle.cells.specs.Names.{CPL-SUBND-END, CPLEND, CPLINU, CPLSTRT, ENDMANT, FSCOD, HELDEND, HELDSTRT, LFEON, NFCHANS}
 use Rattle.derivations.specs.Derivations.{Allocation}
 use Rattle.derivations.specs.Sets.{strategyOf, startOf, endOf}
 use Rattle.derivations.specs.Shapes.{shapeOf}
+use Rattle.plan.specs.Plan.{mantissasOf}
+use Rattle.slots.specs.declared.Shape.{Shape}
 use Rattle.rows.specs.Syntax.{Item, element, elements, span, mantissas, exponents, when, each, reject, reject-at, put, fill, derive, meaning}
 use Rattle.annex.specs.Annex.{header, body}
 use Rattle.annex.specs.Frame.{start, bytesOf}
@@ -38,13 +40,22 @@ Coupling m = cellOf m CPLINU ≡ 1 → (cellOf m HELDSTRT ≡ cellOf m CPLSTRT) 
 abbrev pub Lfe : List ℕ → Type 0
 Lfe m = cellOf m LFEON ≡ 1 → cellOf m (HELDEND + 6) ≡ 7
 
--- what an allocation asks for, so that three tests are not met: reused exponents that end elsewhere; SNR offsets, and leaks, that were never sent
+-- no range of a channel ends past bin 253, and that of coupling has a bin
+pub record EndsFit (m : List ℕ) : Type 0 where
+  pub channels : (ch : ℕ) → ch < cellOf m NFCHANS → cellOf m (ENDMANT + ch) ≤ 253
+  pub coupling : cellOf m CPLINU ≡ 1 → cellOf m CPLSTRT < cellOf m CPLEND
+
+-- what an allocation asks for, so that three tests are not met: reused exponents that end elsewhere; SNR offsets, and leaks, that were never sent. Its sample
+-- rate is one of three, it has a channel, and no range ends past bin 253
 pub record Ready (es : List Entry) (m : List ℕ) : Type 0 where
   pub channels : Channels m
   pub coupling : Coupling m
   pub lfe : Lfe m
   pub offsets : Offsets es
   pub leaks : cellOf m CPLINU ≡ 1 → Leaks es
+  pub rate : cellOf m FSCOD < 3
+  pub some : 1 ≤ cellOf m NFCHANS
+  pub ends : EndsFit m
 
 -- a set of exponents that is read: it is of one of the seven slots, its strategy is D15, D25 or D45, its range has a bin and ends by bin 253, its groups
 -- reach the end, and do not pass bin 253
@@ -63,7 +74,7 @@ abbrev pub Unmet : Item → Point
 Unmet (element name i w a) st p es = Unit {0}
 Unmet (elements name i w a k f n) st p es = Unit {0}
 Unmet (span name k) st p es = Unit {0}
-Unmet (mantissas name a) st p es = Unit {0}
+Unmet (mantissas name a) st p es = EndsFit (st .cells)
 Unmet (exponents s name i) st p es = SetFits (st .cells) (sumOf s (st .cells) % 256)
 Unmet (when c b) st p es = Unit {0}
 Unmet (each k i n b) st p es = Unit {0}
@@ -79,6 +90,12 @@ mostPointer aht = cond aht 19 15
 
 abbrev pub Pointers : List ℕ → List ℕ → Type 0
 Pointers m baps = (slot bin : ℕ) → slot < 7 → bin < 256 → requestedOf (shapeOf m) slot ≡ true → pointer baps slot bin ≤ mostPointer (getD (shapeOf m .ahtinu) slot false)
+
+-- no others are looked at: where the pointers of those slots are the same, so is the reading of the mantissas
+abbrev pub OnlyAskedFor : Type 0
+OnlyAskedFor =
+    (shape : Shape) (x y : List ℕ) → ((slot bin : ℕ) → slot < 7 → bin < 256 → requestedOf shape slot ≡ true → pointer x slot bin ≡ pointer y slot bin)
+    → mantissasOf x shape ≡ mantissasOf y shape
 
 abbrev pub Pointed : Item → Point
 Pointed i st p es = (name : ℕ) (a : Addr) → i ≡ mantissas name a → Pointers (st .cells) (st .bins .baps)

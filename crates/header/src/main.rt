@@ -5,8 +5,6 @@ use bits::ByteCount;
 use lent::Label;
 use libc::STDIN_FILENO;
 use names::numbers;
-use print::blank;
-use print::newline;
 use print::number;
 use syntax::Cursor;
 ghost use mathlib.Core.Path.{_≡_};
@@ -130,14 +128,12 @@ fn end(n: usize) -> BitPlace
 fn line(table: &[u8; 3232], first: u16, wide: u16, name: u8, value: u32)
     requires { ⌜ now table ≡ rows ⌝ }
 {
-    number(first as u64);
-    blank();
-    number(wide as u64);
-    blank();
-    print::name(table, name);
-    blank();
-    number(value as u64);
-    newline();
+    let mut out = [0u8; 64];
+    let at = number(&mut out, 0, first as u64, b' ');
+    let at = number(&mut out, at, wide as u64, b' ');
+    let at = print::name(table, &mut out, at, name, b' ');
+    let at = number(&mut out, at, value as u64, b'\n');
+    print::write(&out, at);
 }
 
 fn lines(

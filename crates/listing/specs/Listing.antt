@@ -1,11 +1,20 @@
--- A frame read with room for records.
-use mathlib.Core.List.{List}
-use Prim.Native.Nat.{ℕ}
-use lib.IntN.{pos}
-use lib.ListN.{replicate}
+-- A frame read with room for records, and the text that lists it (document 01, module 8).
+use mathlib.Core.Path.{_≡_}
+use mathlib.Core.List.{List, [], _∷_, _++_}
+use Prim.Native.Nat.{ℕ, zero, suc, _≤_, min}
+use lib.IntN.{ℤ, pos}
+use lib.ListN.{length, getD, take, replicate}
+use Rattle.names.specs.Spelling.{bytes, spellingOf}
+use Rattle.print.specs.Text.{decimalOf, signedOf}
 use Rattle.reading.specs.Room.{Room, room, Out}
 use Rattle.cells.specs.Cells.{State}
-use Rattle.eac3.specs.Answer.{answered}
+use Rattle.eac3.specs.Answer.{answered, answerOf, countOf}
+use Rattle.eac3.specs.declared.answer.Frame.{Frame}
+use Rattle.eac3.specs.declared.answer.Answer.{Answer}
+use Rattle.eac3.specs.declared.answer.Verdict.{Verdict}
+use Rattle.eac3.specs.declared.answer.Verdict.the-variants.{Accepted, Refused}
+use Rattle.listing.specs.declared.Records.{Records}
+use Rattle.listing.specs.declared.Text.{Text}
 
 -- n records, all 0
 abbrev pub empty : ℕ → Room
@@ -14,3 +23,57 @@ empty n = room (replicate n 0) (replicate n (pos 0)) (replicate n (pos 0)) (repl
 -- a slice read with room for 2,048 records
 abbrev pub readOf : List ℕ → Out State
 readOf s = answered s (empty 2048)
+
+-- an answer and its records are those of a slice
+pub record ReadFrom (src : List ℕ) (r : Records) : Type 0 where
+  pub answer : r .answer ≡ answerOf (readOf src)
+  pub left : room (r .names) (r .blocks) (r .indexes) (r .firsts) (r .widths) (r .values) ≡ readOf src .left
+
+-- they are those of some slice, which no contract can name
+pub record Read (r : Records) : Type 0 where
+  pub src : List ℕ
+  pub short : length src ≤ 4096
+  pub «from» : ReadFrom src r
+
+-- a word with the blank after it, and the last word of a line
+abbrev pub word : List ℕ → List ℕ
+word w = w ++ (32 ∷ [])
+
+abbrev pub last : List ℕ → List ℕ
+last w = w ++ (10 ∷ [])
+
+abbrev pub threeLine : ℕ → ℕ → ℕ → List ℕ
+threeLine a b c = word (decimalOf a) ++ word (decimalOf b) ++ last (decimalOf c)
+
+-- `accepted BYTES AUDIOEND RECORDS`, or `refused NUMBER PLACE RECORDS`
+unfoldable pub firstBy : Verdict → Frame → List ℕ
+firstBy Accepted f = bytes "accepted " ++ threeLine (f .bytes .0) (f .«audio_end» .0) (f .fields)
+firstBy (Refused number place count) f = bytes "refused " ++ threeLine number (place .0) count
+
+abbrev pub firstLine : Answer → List ℕ
+firstLine a = firstBy (a .verdict) (a .frame)
+
+-- first bit, width, name, block, index and value
+abbrev pub recordLine : ℕ → ℕ → ℕ → ℤ → ℤ → ℕ → List ℕ
+recordLine first width name block index value =
+    word (decimalOf first) ++ word (decimalOf width) ++ word (spellingOf name) ++ word (signedOf block)
+    ++ word (signedOf index) ++ last (decimalOf value)
+
+-- the record i; the records before n, one after another
+abbrev pub lineOf : Records → ℕ → List ℕ
+lineOf r i =
+    recordLine (getD (r .firsts) i 0) (getD (r .widths) i 0) (getD (r .names) i 0) (getD (r .blocks) i (pos 0))
+    (getD (r .indexes) i (pos 0)) (getD (r .values) i 0)
+
+unfoldable pub linesOf : Records → ℕ → List ℕ
+linesOf r zero = []
+linesOf r (suc n) = linesOf r n ++ lineOf r n
+
+-- the whole text: the answer, and a line for each record that it counts
+abbrev pub listingOf : Records → List ℕ
+listingOf r = firstLine (r .answer) ++ linesOf r (min (countOf (r .answer)) 2048)
+
+-- the first bytes of a buffer are a text
+pub record Holds (t : Text) (bytes : List ℕ) : Type 0 where
+  pub within : t .size ≤ length (t .bytes)
+  pub text : take (t .size) (t .bytes) ≡ bytes

@@ -1,21 +1,20 @@
-// The answer and the records of the frame on standard input, as lines of text.
+// The answer and the records of a frame, as lines of text in a lent buffer.
 pub mod cases;
 
 ghost use mathlib.Core.Path.{_≡_};
+ghost use Prim.Native.Nat.{_≤_, min};
+ghost use lib.ListN.{length};
 ghost use Rattle.names.specs.Spelling.{rows};
-ghost use Rattle.reading.specs.Room.{room};
-ghost use Rattle.eac3.specs.Answer.{answerOf, countOf};
-ghost use Rattle.listing.specs.Listing.{readOf};
+ghost use Rattle.print.specs.Text.{Added};
+ghost use Rattle.eac3.specs.Answer.{countOf};
+ghost use Rattle.listing.specs.Listing.{ReadFrom, Read, Holds, threeLine, firstLine, recordLine, linesOf, listingOf};
 use eac3::answer::Answer;
-use eac3::answer::Frame;
 use eac3::answer::Verdict;
 use libc::STDIN_FILENO;
-use print::blank;
-use print::newline;
 use print::number;
+use print::put;
 use print::signed;
 use print::signed_byte;
-use print::text;
 
 // An answer, with as many records as it counts, in the order of their first bits. What follows them is 0.
 pub struct Records {
@@ -30,8 +29,7 @@ pub struct Records {
 
 // Reads one frame with room for 2,048 records.
 pub fn records_of(src: &[u8]) -> Records
-    ensures { λ r. ⌜ (r .answer ≡ answerOf (readOf (now (src .entry))))
-        × (room (r .names) (r .blocks) (r .indexes) (r .firsts) (r .widths) (r .values) ≡ readOf (now (src .entry)) .left) ⌝ }
+    ensures { λ r. ⌜ ReadFrom (now (src .entry)) r ⌝ }
 {
     let mut names: [u8; 2048] = [0; 2048];
     let mut blocks: [i8; 2048] = [0; 2048];
@@ -70,91 +68,126 @@ pub fn count_of(answer: Answer) -> usize
     }
 }
 
-fn three(a: u64, b: u64, c: u64) {
-    number(a);
-    blank();
-    number(b);
-    blank();
-    number(c);
-    newline();
-}
-
-fn accepted(frame: Frame) {
-    text(b"accepted ");
-    three(
-        frame.bytes.0 as u64,
-        frame.audio_end.0 as u64,
-        frame.fields as u64,
-    );
-}
-
-pub fn refused(refusal: u8, place: u16, count: usize) {
-    text(b"refused ");
-    three(refusal as u64, place as u64, count as u64);
+// Three numbers that end a line.
+fn three(out: &mut [u8], at: usize, a: u64, b: u64, c: u64) -> usize
+    ensures { λ r. ⌜ Added (now (out .entry)) at (threeLine a b c) (now (out .exit)) r ⌝ }
+{
+    let at = number(out, at, a, b' ');
+    let at = number(out, at, b, b' ');
+    number(out, at, c, b'\n')
 }
 
 // The answer: frame bytes, end of audio and records; or number, place and records.
-pub fn first_line(answer: Answer) {
+pub fn first_line(out: &mut [u8], at: usize, answer: Answer) -> usize
+    ensures { λ r. ⌜ Added (now (out .entry)) at (firstLine answer) (now (out .exit)) r ⌝ }
+{
     let verdict = answer.verdict;
     match verdict {
-        Verdict::Accepted => accepted(answer.frame),
-        Verdict::Refused(refusal, place, count) => refused(refusal, place, count),
+        Verdict::Accepted => {
+            let frame = answer.frame;
+            let at = put(out, at, b"accepted ");
+            three(
+                out,
+                at,
+                frame.bytes.0 as u64,
+                frame.audio_end.0 as u64,
+                frame.fields as u64,
+            )
+        }
+        Verdict::Refused(refusal, place, count) => {
+            let at = put(out, at, b"refused ");
+            three(out, at, refusal as u64, place.0 as u64, count as u64)
+        }
     }
 }
 
 // First bit, width, name, block, index and value.
-fn line(table: &[u8; 3232], first: u16, width: u16, name: u8, block: i8, index: i16, value: u32)
+fn line(
+    table: &[u8; 3232],
+    out: &mut [u8],
+    at: usize,
+    first: u16,
+    width: u16,
+    name: u8,
+    block: i8,
+    index: i16,
+    value: u32,
+) -> usize
     requires { ⌜ now table ≡ rows ⌝ }
+    ensures { λ r. ⌜ Added (now (out .entry)) at (recordLine first width name block index value) (now (out .exit)) r ⌝ }
 {
-    number(first as u64);
-    blank();
-    number(width as u64);
-    blank();
-    print::name(table, name);
-    blank();
-    signed_byte(block);
-    blank();
-    signed(index);
-    blank();
-    number(value as u64);
-    newline();
+    let at = number(out, at, first as u64, b' ');
+    let at = number(out, at, width as u64, b' ');
+    let at = print::name(table, out, at, name, b' ');
+    let at = signed_byte(out, at, block, b' ');
+    let at = signed(out, at, index, b' ');
+    number(out, at, value as u64, b'\n')
 }
 
-fn lines(table: &[u8; 3232], r: Records, count: usize)
+// The first n records, a line each.
+fn lines(table: &[u8; 3232], out: &mut [u8], at: usize, r: Records, n: usize) -> usize
     requires { ⌜ now table ≡ rows ⌝ }
+    requires { ⌜ at ≤ length (now out) ⌝ }
+    requires { ⌜ n ≤ 2048 ⌝ }
+    ensures { λ e. ⌜ Added (now (out .entry)) at (linesOf r n) (now (out .exit)) e ⌝ }
 {
+    let mut end = at;
     let mut i = 0;
-    while i < 2048 {
-        if i < count {
-            line(
-                table,
-                r.firsts[i],
-                r.widths[i],
-                r.names[i],
-                r.blocks[i],
-                r.indexes[i],
-                r.values[i],
-            );
-        }
+    while i < n {
+        end = line(
+            table,
+            out,
+            end,
+            r.firsts[i],
+            r.widths[i],
+            r.names[i],
+            r.blocks[i],
+            r.indexes[i],
+            r.values[i],
+        );
         i += 1;
     }
+    end
+}
+
+fn least(count: usize) -> usize
+    ensures { λ r. ⌜ r ≡ min count 2048 ⌝ }
+{
+    if count < 2048 { count } else { 2048 }
 }
 
 // The answer on the first line, then a line for each record.
-pub fn list(r: Records) {
-    first_line(r.answer);
+pub fn list(out: &mut [u8], r: Records) -> usize
+    ensures { λ e. ⌜ Added (now (out .entry)) 0 (listingOf r) (now (out .exit)) e ⌝ }
+{
+    let at = first_line(out, 0, r.answer);
     let table = names::table();
-    lines(&table, r, count_of(r.answer));
+    lines(&table, out, at, r, least(count_of(r.answer)))
+}
+
+// A listing: the first bytes of a buffer that has room for the longest.
+pub struct Text {
+    pub bytes: [u8; 262272],
+    pub size: usize,
+}
+
+// The answer and the records as text.
+pub fn text_of(r: Records) -> Text
+    ensures { λ t. ⌜ Holds t (listingOf r) ⌝ }
+{
+    let mut bytes = [0; 262272];
+    let size = list(&mut bytes, r);
+    Text {
+        bytes: bytes,
+        size: size,
+    }
 }
 
 // The frame on standard input: its first 4,096 bytes are read, what follows is ignored.
-pub fn input() -> Records {
+pub fn input() -> Records
+    ensures { λ r. ⌜ Read r ⌝ }
+{
     let mut bytes = io::buffer();
     let n = io::read_full(STDIN_FILENO, &mut bytes);
     records_of(&bytes[..n])
-}
-
-// Lists the frame on standard input.
-pub fn run() {
-    list(input());
 }

@@ -19,12 +19,11 @@ use listing::cases::length;
 use listing::cases::pair;
 use listing::cases::slice;
 use listing::first_line;
-use listing::list;
 use listing::records_of;
-use listing::refused;
-use print::newline;
-use print::number;
-use print::text;
+use listing::text_of;
+use print::decimal;
+use print::put;
+use print::write;
 use std::num::wrapping_add_u64;
 
 struct Tally {
@@ -52,10 +51,17 @@ fn counted(t: Tally, theirs: [u8; 69]) -> Tally {
     }
 }
 
+// A word and a number.
+fn part(out: &mut [u8], at: usize, name: &[u8], n: u64) -> usize {
+    let at = put(out, at, name);
+    decimal(out, at, n)
+}
+
 fn differs(t: Tally, case: usize) -> Tally {
-    text(b"case ");
-    number(case as u64);
-    text(b" differs\n");
+    let mut out = [0u8; 64];
+    let at = part(&mut out, 0, b"case ", case as u64);
+    let at = put(&mut out, at, b" differs\n");
+    write(&out, at);
     let verdicts = t.verdicts;
     Tally {
         verdicts: verdicts,
@@ -64,12 +70,19 @@ fn differs(t: Tally, case: usize) -> Tally {
     }
 }
 
+// The answer of a slice.
+fn answered(answer: Answer) {
+    let mut out = [0u8; 128];
+    let n = first_line(&mut out, 0, answer);
+    write(&out, n);
+}
+
 // Number, place and count of a slice that is refused.
 fn refusal(answer: Answer) {
     let verdict = answer.verdict;
     match verdict {
         Verdict::Accepted => {}
-        Verdict::Refused(number, place, count) => refused(number, place, count),
+        Verdict::Refused(_, _, _) => answered(answer),
     }
 }
 
@@ -86,25 +99,22 @@ fn one(t: Tally, case: usize) -> Tally {
     differs(t, case)
 }
 
-fn part(name: &[u8], n: u64) {
-    text(name);
-    number(n);
-}
-
-fn print_verdicts(verdicts: [u64; 4]) {
-    part(b" accepted ", verdicts[0]);
-    part(b" invalid ", verdicts[1]);
-    part(b" unsupported ", verdicts[2]);
-    part(b" truncated ", verdicts[3]);
+fn verdicts_line(out: &mut [u8], at: usize, verdicts: [u64; 4]) -> usize {
+    let at = part(out, at, b" accepted ", verdicts[0]);
+    let at = part(out, at, b" invalid ", verdicts[1]);
+    let at = part(out, at, b" unsupported ", verdicts[2]);
+    part(out, at, b" truncated ", verdicts[3])
 }
 
 fn print_tally(t: Tally, cases: usize) {
-    part(b"cases ", cases as u64);
+    let mut out = [0u8; 256];
+    let at = part(&mut out, 0, b"cases ", cases as u64);
     let verdicts = t.verdicts;
-    print_verdicts(verdicts);
-    part(b" records ", t.records);
-    part(b" differences ", t.differences);
-    newline();
+    let at = verdicts_line(&mut out, at, verdicts);
+    let at = part(&mut out, at, b" records ", t.records);
+    let at = part(&mut out, at, b" differences ", t.differences);
+    let at = put(&mut out, at, b"\n");
+    write(&out, at);
 }
 
 fn replay_all() {
@@ -123,19 +133,21 @@ fn replay_all() {
 }
 
 // The answer of a slice, with its records or without.
-fn answered(listed: usize, src: &[u8]) {
+fn read(listed: usize, src: &[u8]) {
     let r = records_of(src);
     if listed == 1 {
-        return list(r);
+        let text = text_of(r);
+        let bytes = text.bytes;
+        return write(&bytes, text.size);
     }
-    first_line(r.answer);
+    answered(r.answer);
 }
 
 fn further() {
     let listed = input_pair();
     let n = length(input_pair());
     let bytes = slice(n);
-    answered(listed, &bytes[..n]);
+    read(listed, &bytes[..n]);
 }
 
 fn answer_all() {

@@ -22,7 +22,8 @@ use Rattle.syntax.specs.Records.{part, outcome, goingAt, haltedAt}
 use Rattle.syntax.specs.Rooms.{Fills}
 use Rattle.syntax.specs.declared.Cursor.{Cursor}
 use Rattle.slots.specs.Held.{Bins, bins}
-use Rattle.exponents.specs.Set.{setOf, SetRead}
+use Rattle.exponents.specs.Set.{setOf}
+use Rattle.exponents.specs.SetRead.{SetRead}
 use Rattle.plan.specs.Taken.{taken}
 use Rattle.plan.specs.declared.Taken.{Taken}
 use Rattle.allocation.specs.Memo.{staleOf}

@@ -2,41 +2,38 @@
 // the records of each: first bit, width, name, block, index, value.
 ghost use Prim.Native.Nat.{_<_, _≤_};
 use libc::STDIN_FILENO;
-use print::blank;
-use print::newline;
 use print::number;
+use print::put;
 use print::signed;
 use print::signed_byte;
-use print::text;
 use syntax::Cursor;
 
 fn line(first: u16, width: u16, name: u8, block: i8, index: i16, value: u32) {
-    number(first as u64);
-    blank();
-    number(width as u64);
-    blank();
-    number(name as u64);
-    blank();
-    signed_byte(block);
-    blank();
-    signed(index);
-    blank();
-    number(value as u64);
-    newline();
+    let mut out = [0u8; 64];
+    let at = number(&mut out, 0, first as u64, b' ');
+    let at = number(&mut out, at, width as u64, b' ');
+    let at = number(&mut out, at, name as u64, b' ');
+    let at = signed_byte(&mut out, at, block, b' ');
+    let at = signed(&mut out, at, index, b' ');
+    let at = number(&mut out, at, value as u64, b'\n');
+    print::write(&out, at);
+}
+
+// Whether the frame was accepted, or the number of the refusal.
+fn verdict(out: &mut [u8], c: Cursor) -> usize {
+    if c.stopped {
+        let at = put(out, 0, b"refused ");
+        return number(out, at, c.number as u64, b' ');
+    }
+    put(out, 0, b"accepted ")
 }
 
 fn answer(c: Cursor) {
-    if c.stopped {
-        text(b"refused ");
-        number(c.number as u64);
-    } else {
-        text(b"accepted");
-    }
-    blank();
-    number(c.at.0 as u64);
-    blank();
-    number(c.count as u64);
-    newline();
+    let mut out = [0u8; 64];
+    let at = verdict(&mut out, c);
+    let at = number(&mut out, at, c.at.0 as u64, b' ');
+    let at = number(&mut out, at, c.count as u64, b'\n');
+    print::write(&out, at);
 }
 
 fn lines(
