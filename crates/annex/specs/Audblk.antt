@@ -1,4 +1,4 @@
--- E.1.2.4 audblk: one block. Each element with its name, index, width in bits, and the cell that keeps its value for what steers the rest.
+-- audblk (TS 102 366 E.1.2.4, A/52 E2.2.4): one block. Each element with its name, index, width in bits, and the cell that keeps its value for what steers the rest.
 use Prim.Native.Nat.{_+_}
 use Rattle.names.specs.Names.{baie, blkfsnroffst, blksw, chbwcod, chincpl, chinspx, convsnroffst, convsnroffste, cplabsexp, cplbegf, cplbndstrc, cplbndstrce, cplcoe, cplcoexp, cplcomant, cpldeltba, cpldeltbae, cpldeltlen, cpldeltnseg, cpldeltoffst, cplendf, cplexps, cplfgaincod, cplfleak, cplfsnroffst, cplleake, cplsleak, csnroffst, dbpbcod, deltba, deltbae, deltbaie, deltlen, deltnseg, deltoffst, dithflag, dynrng, dynrng2, dynrng2e, dynrnge, ecplinu, exps-ch, exps-ch-0, fdcycod, fgaincod, fgaincode, floorcod, fsnroffst, gainrng, lfeexps, lfeexps-0, lfefgaincod, lfefsnroffst, mstrcplco, mstrspxco, phsflg, phsflginu, rematflg, rematstr, sdcycod, sgaincod, skipfld, skipl, skiple, snroffste, spxbegf, spxblnd, spxbndstrc, spxbndstrce, spxcoe, spxcoexp, spxcomant, spxendf, spxinu, spxstre, spxstrtf, mantissas as mantissas-of-block}
 use Rattle.cells.specs.Names.{ABSEXP, ACMOD, BAI-SENT, BAIE, BAMODE, BLK, BLKFSNROFFST, BLKSWE, BLOCK, BLOCK-STARTS, BND, CH, CHBWCOD, CHBWSENT, CHEXPSTR, CHINCPL, CHINSPX, CONVSNROFFSTE, CPL-BLOCKS, CPL-SUBND-END, CPLBEGF, CPLBNDSTRC, CPLBNDSTRCE, CPLCOE, CPLEND, CPLENDF, CPLEXPSTR, CPLFLEAK, CPLINU, CPLINUS, CPLLEAKE, CPLSLEAK, CPLSTRE, CPLSTRT, CSNROFFST, DBAFLDE, DBPBCOD, DELTBA, DELTBAE, DELTBAIE, DELTLEN, DELTNSEG, DELTOFFST, DITHFLAGE, DYNRNG2E, DYNRNGE, ECPLINU, ENDMANT, FDCYCOD, FGAINCOD, FGAINCODE, FIRSTCPLCOS, FIRSTCPLLEAK, FIRSTSPXCOS, FLOORCOD, FRMFGAINCODE, FSNROFFST, HELDEND, HELDSTRT, LFEEXPSTR, LFEON, MANTISSA-STARTS, NCPLBND, NCPLSUBND, NFCHANS, NREMATBD, NSEG, NSPXBNDS, PHSFLGE, PHSFLGINU, REMATSTR, SDCYCOD, SEG, SGAINCOD, SKIPFLDE, SKIPL, SKIPLE, SLOT, SNROFFSTE, SNROFFSTSTR, SPX-BEGIN, SPX-BLOCKS, SPX-END, SPXBEGF, SPXBNDSTRC, SPXBNDSTRCE, SPXCOE, SPXENDF, SPXINU, SPXSTRE, STRMTYP, SUB, TAGS, WIDTH}

@@ -1,4 +1,4 @@
--- E.1.2.2 bsi, after frmsiz. Each element with its name, index, width in bits, and the cell that keeps its value for what steers the rest.
+-- bsi (TS 102 366 E.1.2.2, A/52 E2.2.2), after frmsiz. Each element with its name, index, width in bits, and the cell that keeps its value for what steers the rest.
 use mathlib.Core.List.{[], _∷_}
 use Rattle.names.specs.Names.{acmod, adconvtyp, adconvtyp2, addbsi, addbsie, addbsil, addche, addspchdat1e, addspchdate, audprodi2e, audprodie, blkid, blkmixcfginfo, blkmixcfginfoe, bsid, bsmod, chanmap, chanmape, compr, compr2, compr2e, compre, convsync, copyrightb, dheadphonmod, dialnorm, dialnorm2, dmixmod, dmixscl, drcsrc, dsurexmod, dsurmod, extpgmaux1scl, extpgmaux2scl, extpgmcscl, extpgmlfescl, extpgmlscl, extpgmlsscl, extpgmrscl, extpgmrsscl, extpgmscl, extpgmscle, frmmixcfginfoe, frmsizecod, fscod, infomdate, lfemixlevcod, lfemixlevcode, lfeon, lorocmixlev, lorosurmixlev, ltrtcmixlev, ltrtsurmixlev, mixdata, mixdata2e, mixdata3e, mixdef, mixdeflen, mixlevel, mixlevel2, mixmdate, numblkscod, origbs, paninfo, paninfo2, paninfo2e, paninfoe, panmean, panmean2, pgmscl, pgmscl2, pgmscl2e, pgmscle, premixcmpscl, premixcmpsel, roomtyp, roomtyp2, scale-exists, sourcefscod, spchan1att, spchan2att, spchdat, spchdat1, spchdat2}
 use Rattle.rows.specs.Syntax.{Word, Is, Not, Above, Below, Among, Over, Here, Let, Minus, Block, end, _⨾_, element, span, when, reject, each, put, derive, held, cell, no, none, by, from, upto, number}

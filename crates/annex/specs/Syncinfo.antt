@@ -1,4 +1,4 @@
--- The header: syncinfo (E.1.2.1), and bsi (E.1.2.2) up to frmsiz, which announces the size of the frame. Each element with its name, index,
+-- The header: syncinfo (TS 102 366 E.1.2.1, A/52 E2.2.1), and bsi (E.1.2.2, E2.2.2) up to frmsiz, which announces the size of the frame. Each element with its name, index,
 -- width in bits, and the cell that keeps its value for what steers the rest.
 use Rattle.names.specs.Names.{frmsiz, strmtyp, substreamid, syncword}
 use Rattle.cells.specs.Names.{FRMSIZ, STRMTYP, SUBSTREAMID, SYNCWORD}

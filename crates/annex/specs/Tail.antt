@@ -1,4 +1,4 @@
--- The rows of a frame's tail, auxdata and errorcheck (A/52 clauses 5.3.4, 5.3.5, E.1.2.5, E.1.2.6; TS 102 366 clauses 4.3.4, 4.3.5, E.1.2.5, E.1.2.6).
+-- The rows of a frame's tail, auxdata and errorcheck (A/52 clauses 5.3.4, 5.3.5, E2.2.5, E2.2.6; TS 102 366 clauses 4.3.4, 4.3.5, E.1.2.5, E.1.2.6).
 -- Their meaning is the tail of every frame (reading/specs/Frame), which proofs/Tails shows.
 use Rattle.names.specs.Names.{auxbits, auxdatae, auxdatal, crc2, encinfo}
 use Rattle.cells.specs.Names.{AFTER-AUDIO, AFTER-AUXDATAE, AUXDATAE, AUXDATAL, FRAME-END, WIDTH}

@@ -1,6 +1,8 @@
 // Bits of a slice of bytes, the high bit of each byte first (A/52 clause 5.3, TS 102 366 clause 4.3).
 ghost use mathlib.Core.Path.{_≡_};
+ghost use mathlib.Core.Bool.{false};
 ghost use Prim.Native.Nat.{_+_, _*_, _-_, _/_, _<_, _≤_};
+ghost use lib.Dec.{ltb};
 ghost use lib.ListN.{length};
 ghost use Rattle.bits.specs.Bits.{bitsAt, getOf};
 
@@ -27,6 +29,13 @@ impl BitPlace {
     {
         ByteCount(self.0 / 8)
     }
+}
+
+// Whether `width` bits at `at` pass the end. Where they do not, the place after them fits.
+pub fn past(at: BitPlace, width: u16, end: BitPlace) -> bool
+    ensures { λ r. ⌜ (r ≡ ltb (end .0) (at .0 + width)) × (r ≡ false → at .0 + width < 65536) ⌝ }
+{
+    (end.0 as u32) < at.0 as u32 + width as u32
 }
 
 fn wide(x: u8) -> u64
@@ -85,14 +94,15 @@ fn four_bytes(src: &[u8], first: usize) -> u64
 
 // The `width` bits from `at` on, at most 25 of them, which lie in the slice: quicker than `get`. Out of four
 // bytes that are loaded at once the bits before are shifted to the left, those after to the right.
-pub fn bits_at(src: &[u8], at: u16, width: u16) -> u32
-    requires { ⌜ (width ≤ 25) × (at + width ≤ 8 * length (now src)) ⌝ }
-    ensures { λ r. ⌜ r ≡ bitsAt (now (src .entry)) at width ⌝ }
+pub fn bits_at(src: &[u8], at: BitPlace, width: u16) -> u32
+    requires { ⌜ (width ≤ 25) × (at .0 + width ≤ 8 * length (now src)) ⌝ }
+    ensures { λ r. ⌜ r ≡ bitsAt (now (src .entry)) (at .0) width ⌝ }
 {
-    let first = at as usize / 8;
+    let first = at.0 as usize / 8;
     if first + 4 <= src.len() {
         let v = four_bytes(src, first);
-        return (((v << (at as u64 % 8)) % 4294967296) >> (32 - width as u64)) as u32;
+        return (((v << (at.0 as u64 % 8)) % 4294967296) >> (32 - width as u64)) as u32;
     }
-    get(src, BitPlace(at), width)
+    // a new place: that of the caller then need not lie in memory for this call
+    get(src, BitPlace(at.0), width)
 }

@@ -27,5 +27,5 @@ pub record PassedOutcome (r : ℕ) (o : List ℕ → Outcome Groups) : Type 0 wh
 
 pub record TagsOutcome (r : ℕ) (o : Outcome ℕ) : Type 0 where
   pub tagged : Tagged
-  pub is : r ≡ packed (tagged .number) (tagged .place) (tagged .tags) 0 0
+  pub is : r ≡ packed (tagged .number) (tagged .place .0) (tagged .tags) 0 0
   pub tells : tagsOutcome tagged ≡ o

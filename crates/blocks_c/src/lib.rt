@@ -81,11 +81,11 @@ pub extern "C" fn blocks_decode(prev: u8, group: u8) -> u32
     }
 }
 
-fn pack(number: u8, place: u16, x: u16, y: u8, z: u8) -> u64
-    ensures { λ r. ⌜ r ≡ packed number place x y z ⌝ }
+fn pack(number: u8, place: BitPlace, x: u16, y: u8, z: u8) -> u64
+    ensures { λ r. ⌜ r ≡ packed number (place .0) x y z ⌝ }
 {
     number as u64
-        + 256 * (place as u64)
+        + 256 * (place.0 as u64)
         + 16777216 * (x as u64)
         + 4294967296 * (y as u64)
         + 1099511627776 * (z as u64)
@@ -125,8 +125,7 @@ pub extern "C" fn blocks_conventional(
         BitPlace(limit),
     );
     let g = p.groups;
-    let place = p.place;
-    pack(eight(p.refused), place.0, g.g1 as u16, g.g2, g.g4)
+    pack(eight(p.refused), p.place, g.g1 as u16, g.g2, g.g4)
 }
 
 #[no_mangle]
@@ -142,7 +141,7 @@ pub extern "C" fn blocks_aht(
     requires { ⌜ (length (now baps) ≡ 1792) × (slot < 7) × (end ≤ 256) × (limit ≤ 8 * length (now src)) ⌝ }
     ensures { λ r. ⌜ TagsOutcome r (skim (ahtOf (now (baps .entry)) slot start (end - start)) (now (src .entry)) at limit) ⌝ }
 {
-    let t = hybrid::aht(src, baps, slot, start, end, at, limit);
+    let t = hybrid::aht(src, baps, slot, start, end, BitPlace(at), BitPlace(limit));
     pack(t.number, t.place, t.tags, 0, 0)
 }
 

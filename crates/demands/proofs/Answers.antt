@@ -1,13 +1,13 @@
 -- Every call keeps to its numbers, to the place and to the room. Assumes nothing.
-use mathlib.Core.Path.{_≡_, refl, ap, sym, _∙_, subst}
+use mathlib.Core.Path.{_≡_, refl, sym, _∙_}
 use mathlib.Core.Bool.{Bool, true, false, _&&_, _||_, true≢false}
-use mathlib.Core.List.{List, [], _∷_, map}
+use mathlib.Core.List.{List, [], _∷_}
 use Prim.Native.Nat.{ℕ, zero, suc, _+_, _*_, _/_, _≤_, _<_}
 use native.Mathlib.Omega.{arith}
 use lib.Dec.{eqb}
 use lib.ListN.{length, length-set, getElem?, set}
 use borrow.Author.Tests.{eqb-true}
-use Rattle.reading.specs.Run.{Field, Entry, end, Result, accepted, refused, Outcome}
+use Rattle.reading.specs.Run.{Entry, end, Result, accepted, refused, Outcome}
 use Rattle.reading.specs.Records.{Tiles, Whole, Tiled}
 use Rattle.reading.specs.Room.{Room, size, pushed, fill, cutAt, cut}
 use Rattle.reading.specs.Frame.{parse}
@@ -19,9 +19,8 @@ use Rattle.annex.proofs.Header.{tells}
 use Rattle.facts.specs.Outcomes.{refusals, Numbered}
 use Rattle.facts.proofs.Outcomes.{all-keep}
 use Rattle.eac3.specs.Answer.{answerBy, numberOf, placeOf}
-use Rattle.eac3.specs.declared.answer.Answer.{Answer}
-use Rattle.demands.specs.Calls.{Call, count}
-use Rattle.demands.specs.Answers.{numbers, Kept, Answers, AllAnswer}
+use Rattle.demands.specs.Calls.{count}
+use Rattle.demands.specs.Answers.{numbers, Kept, AllAnswer}
 use Rattle.demands.proofs.Rooms.{cut-fits}
 use Rattle.demands.proofs.Calls.{outcome, is, accepts, counts, bytes as bytes-of}
 use Rattle.demands.proofs.Gapless.{parse-tiled, accepted-ends}

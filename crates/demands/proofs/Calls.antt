@@ -1,19 +1,18 @@
 -- A call, in the terms of the definition: its answer is the definition's, cut at the room, and its records are the definition's. Assumes nothing.
 use mathlib.Core.Path.{_≡_, refl, ap, sym, _∙_}
-use mathlib.Core.List.{List, map}
+use mathlib.Core.List.{List}
 use mathlib.Core.Option.{some}
 use Prim.Native.Nat.{ℕ, _+_, _/_, _≤_, _<_}
 use native.Mathlib.Omega.{arith}
 use native.Mathlib.Nat.{zero-add}
 use lib.ListN.{length, getElem?}
-use Rattle.reading.specs.Run.{Field, Entry, Result, accepted, refused, Outcome}
-use Rattle.reading.specs.Room.{Room, size, cut, fill, Out, into}
+use Rattle.reading.specs.Run.{Field, Result, accepted, refused, Outcome}
+use Rattle.reading.specs.Room.{Room, size, cut}
 use Rattle.reading.specs.Frame.{parse}
 use Rattle.reading.specs.CommonReading.{list}
 use Rattle.cells.specs.Cells.{State}
 use Rattle.annex.specs.Frame.{eac3}
-use Rattle.bits.specs.declared.BitPlace.{BitPlace}
-use Rattle.eac3.specs.Answer.{answered, placeAt, answerBy, answerOf}
+use Rattle.eac3.specs.Answer.{answerBy, answerOf, countOf}
 use Rattle.eac3.specs.declared.answer.Answer.{Answer}
 use Rattle.eac3.specs.declared.answer.Verdict.the-variants.{Accepted, Refused}
 use Rattle.demands.specs.Calls.{Call, recordAt, count, nth, Accepts, Refuses}

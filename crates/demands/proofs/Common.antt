@@ -4,7 +4,7 @@ use mathlib.Core.Bool.{true}
 use mathlib.Core.List.{List, [], _∷_, map}
 use mathlib.Core.Logic.{_⊎_, inl, inr}
 use mathlib.Core.Option.{some}
-use Prim.Native.Nat.{ℕ, zero, suc, _≤_, _<_}
+use Prim.Native.Nat.{ℕ, zero, suc, _<_}
 use native.Mathlib.Omega.{arith}
 use lib.ListN.{length, getElem?, length-map}
 use Rattle.bits.specs.Bits.{SameBits}
@@ -14,11 +14,11 @@ use Rattle.reading.specs.Records.{All}
 use Rattle.reading.specs.Frame.{parse}
 use Rattle.reading.specs.CommonReading.{Case, Stand, Excepted, SameSpans, list}
 use Rattle.rows.specs.Syntax.{among}
-use Rattle.annex.specs.Frame.{announcedBy, eac3}
+use Rattle.annex.specs.Frame.{eac3}
 use Rattle.annex.proofs.Header.{eac3-common-reading}
 use Rattle.facts.specs.Outcomes.{spanNames, Named}
 use Rattle.facts.proofs.Outcomes.{all-keep}
-use Rattle.demands.specs.Calls.{Call, count, nth, Accepts, Refuses}
+use Rattle.demands.specs.Calls.{Call, count, nth, Accepts}
 use Rattle.demands.specs.Common.{Pair, Stands, SameSpanBits, CommonReading}
 use Rattle.demands.proofs.Calls.{outcome, accepts, refuses, counts, holds, held}
 

@@ -8,7 +8,7 @@ use native.Mathlib.Omega.{arith}
 use lib.Dec.{leb}
 use lib.ListN.{length, getElem?}
 use borrow.Author.Tests.{leb-true}
-use Rattle.reading.specs.Run.{Field, Entry, end, Result, accepted, refused, Outcome, out, cons, andThen, after, run}
+use Rattle.reading.specs.Run.{Field, Entry, end, Result, accepted, refused, Outcome, out, andThen, after, run}
 use Rattle.reading.specs.Room.{size, cutAt, cut}
 use Rattle.reading.specs.Records.{Tiles, Whole, Tiled}
 use Rattle.reading.specs.Frame.{Format, Announces, auxdataeAt, tail, finish, framed, sized, parse}
@@ -17,9 +17,9 @@ use Rattle.reading.specs.CommonReading.{Holds}
 use Rattle.reading.proofs.Laws.{tiled, tiled-after}
 use Rattle.reading.proofs.Rooms.{cut-same}
 use Rattle.reading.proofs.Frames.{whole, parse-whole, whole-ends}
-use Rattle.annex.specs.Frame.{announcedBy, eac3}
+use Rattle.annex.specs.Frame.{eac3}
 use Rattle.annex.proofs.Header.{tells}
-use Rattle.demands.specs.Calls.{Call, count, nth, Accepts}
+use Rattle.demands.specs.Calls.{Call, count, nth}
 use Rattle.demands.specs.Gapless.{Gapless}
 use Rattle.demands.proofs.Calls.{outcome, accepts, counts, bytes, holds}
 

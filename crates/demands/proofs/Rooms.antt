@@ -2,13 +2,13 @@
 use mathlib.Core.Path.{_≡_, refl, ap, sym, _∙_}
 use mathlib.Core.List.{List, [], _∷_, map}
 use mathlib.Core.Option.{some}
-use Prim.Native.Nat.{ℕ, zero, suc, _+_, _≤_, _<_, min}
+use Prim.Native.Nat.{ℕ, zero, suc, _+_, _≤_, _<_}
 use native.Mathlib.Omega.{arith}
 use native.Mathlib.Nat.{add-zero}
-use lib.IntN.{ℤ, pos}
-use lib.ListN.{length, length-set, getD, getElem?, set}
+use lib.IntN.{pos}
+use lib.ListN.{length, length-set, getElem?}
 use lib.Seq.{getD-set-same, getD-set-other}
-use Rattle.reading.specs.Run.{Field, Entry, Result, Outcome, out, cons}
+use Rattle.reading.specs.Run.{Field, Entry, Outcome}
 use Rattle.reading.specs.Room.{Room, size, pushed, fill, cutAt, cut}
 use Rattle.demands.specs.Calls.{recordAt}
 

@@ -1,5 +1,5 @@
 -- A call with room for 32,782 records is never refused by 33. Assumes nothing.
-use mathlib.Core.Path.{_≡_, ap, sym, subst, _∙_}
+use mathlib.Core.Path.{_≡_, sym, subst}
 use mathlib.Core.Bool.{true}
 use mathlib.Core.List.{List}
 use Prim.Native.Nat.{ℕ, _+_, _≤_}
@@ -14,7 +14,7 @@ use Rattle.annex.specs.Frame.{eac3}
 use Rattle.facts.specs.Outcomes.{refusals, Numbered}
 use Rattle.facts.specs.Suffices.{enough}
 use Rattle.facts.proofs.Room.{not-33, enough-room}
-use Rattle.eac3.specs.Answer.{answered, answerBy, answerOf, Called, numberOf}
+use Rattle.eac3.specs.Answer.{answered, answerBy, answerOf, numberOf}
 use Rattle.eac3.specs.declared.answer.Answer.{Answer}
 use Rattle.demands.specs.Suffices.{NeverFull}
 

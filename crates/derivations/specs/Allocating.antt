@@ -84,7 +84,7 @@ freshBy m =
     FIRSTCPLCOS fiveOnes)
     FIRSTCPLLEAK 1
 
--- the parameters of bamode 0 (E.1.2.4)
+-- the parameters of bamode 0 (TS 102 366 E.1.2.4, A/52 E2.2.4)
 unfoldable pub defaultsBy : List ℕ → List ℕ
 defaultsBy m = putAll m BAI-SENT (sentOf (Sent (record { sdcycod = 2; fdcycod = 1; sgaincod = 1; dbpbcod = 2; floorcod = 7 })))
 

@@ -25,7 +25,7 @@ holding m k v n = sumOf (λ i. cond (eqb (cellOf m (k + i)) v) 1 0) n
 unfoldable pub ncplblksBy : List ℕ → List ℕ
 ncplblksBy m = putIn m NCPLBLKS (holding m CPLINUS 1 (cellOf m NUMBLKS))
 
--- a code of frmcplexpstr or frmchexpstr gives the strategies of six blocks (Table E.1.9), put into every d-th cell from k on
+-- a code of frmcplexpstr or frmchexpstr gives the strategies of six blocks (TS 102 366 Table E.1.9, A/52 Table E2.14), put into every d-th cell from k on
 abbrev pub strategiesBy : ℕ → ℕ → ℕ → List ℕ → List ℕ
 strategiesBy code k d m = eachOf (λ i x. putIn x (k + d * i) (getD frmexpstr (6 * code + i) 0)) 6 m
 
@@ -57,6 +57,6 @@ regionsBy m =
 abbrev pub powersBelow : ℕ → ℕ → ℕ
 powersBelow n k = sumOf (λ i. cond (ltb (2 ^ i) n) 1 0) k
 
--- the width of blkstrtinfo (E.1.2.3): numblks - 1 times 4 + ceiling (log2 (words_per_frame))
+-- the width of blkstrtinfo (TS 102 366 E.1.2.3, A/52 E2.2.3): numblks - 1 times 4 + ceiling (log2 (words_per_frame))
 unfoldable pub blkstrtinfoBy : List ℕ → List ℕ
 blkstrtinfoBy m = putIn m WIDTH ((cellOf m NUMBLKS - 1) * (4 + powersBelow (cellOf m FRMSIZ + 1) 17))

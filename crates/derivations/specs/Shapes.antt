@@ -30,6 +30,6 @@ shapeOf m = record {
   cplend = cellOf m CPLEND;
 }
 
--- the mantissas of the block (A/52 clause 5.3.3, TS 102 366 clauses 4.3.3 and E.1.2.4)
+-- the mantissas of the block (A/52 clauses 5.3.3 and E2.2.4, TS 102 366 clauses 4.3.3 and E.1.2.4)
 unfoldable pub mantissasIn : State → Skim (List ℕ)
 mantissasIn st = mantissasOf (st .bins .baps) (shapeOf (st .cells))

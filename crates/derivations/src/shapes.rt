@@ -31,7 +31,7 @@ pub fn byte(v: u16) -> u8
     (v % 256) as u8
 }
 
-// Five flags, or seven, or five values, or six, from the cell k on.
+// Five flags, or seven, or five values, from the cell k on.
 fn five_flags(cells: &[u16; 1024], k: usize) -> [bool; 5]
     requires { ⌜ k ≤ 1024 ⌝ }
     ensures { λ r. ⌜ r ≡ flagsOf (now (cells .entry)) k 5 ⌝ }
@@ -70,20 +70,6 @@ fn five_values(cells: &[u16; 1024], k: usize) -> [u16; 5]
         cell_of(cells, k + 2),
         cell_of(cells, k + 3),
         cell_of(cells, k + 4),
-    ]
-}
-
-pub fn six_values(cells: &[u16; 1024], k: usize) -> [u16; 6]
-    requires { ⌜ k ≤ 1024 ⌝ }
-    ensures { λ r. ⌜ r ≡ valuesOf (now (cells .entry)) k 6 ⌝ }
-{
-    [
-        cell_of(cells, k),
-        cell_of(cells, k + 1),
-        cell_of(cells, k + 2),
-        cell_of(cells, k + 3),
-        cell_of(cells, k + 4),
-        cell_of(cells, k + 5),
     ]
 }
 

@@ -50,17 +50,15 @@ fn bytes_of(cells: &[u16; 1024]) -> ByteCount
     ByteCount(2 * (cell_of(cells, FRMSIZ) % 2048 + 1))
 }
 
-// A place has 16 bits.
-fn place(at: u16) -> u16
-    ensures { λ r. ⌜ (r ≡ at) × (r < 65536) ⌝ }
+// The place so many bits before another, or the first.
+fn earlier(at: BitPlace, width: u16) -> BitPlace
+    ensures { λ r. ⌜ r .0 ≡ at .0 - width ⌝ }
 {
-    at
-}
-
-fn less(a: u16, b: u16) -> u16
-    ensures { λ r. ⌜ r ≡ a - b ⌝ }
-{
-    if b < a { a - b } else { 0 }
+    if width < at.0 {
+        BitPlace(at.0 - width)
+    } else {
+        BitPlace(0)
+    }
 }
 
 // A refusal at the cursor, unless it is stopped already.
@@ -74,13 +72,13 @@ fn stopped(cur: Cursor, number: u8) -> Cursor
 }
 
 // The cells of the tail: where the frame ends, and auxdatae, which is looked at ahead.
-fn tail_cells(src: &[u8], limit: u16) -> [u16; 1024]
-    requires { ⌜ (16 ≤ limit) × (limit ≤ 8 * length (now src)) ⌝ }
-    ensures { λ r. ⌜ r ≡ putIn (putIn (start .cells) FRAME-END limit) auxdatae (bitsAt (now (src .entry)) (limit - 18) 1) ⌝ }
+fn tail_cells(src: &[u8], limit: BitPlace) -> [u16; 1024]
+    requires { ⌜ (16 ≤ limit .0) × (limit .0 ≤ 8 * length (now src)) ⌝ }
+    ensures { λ r. ⌜ r ≡ putIn (putIn (start .cells) FRAME-END (limit .0)) auxdatae (bitsAt (now (src .entry)) (limit .0 - 18) 1) ⌝ }
 {
     let mut cells: [u16; 1024] = [0; 1024];
-    put(&mut cells, FRAME_END, limit as u32);
-    put(&mut cells, AUXDATAE, bits_at(src, less(limit, 18), 1));
+    put(&mut cells, FRAME_END, limit.0 as u32);
+    put(&mut cells, AUXDATAE, bits_at(src, earlier(limit, 18), 1));
     cells
 }
 
@@ -112,8 +110,7 @@ fn framed(
     if src.len() < bytes.0 as usize {
         return halted(cur.at, cur.count, 4);
     }
-    let end = bytes.bits();
-    let limit = end.0;
+    let limit = bytes.bits();
     let c = each(
         table,
         src,
@@ -127,7 +124,7 @@ fn framed(
         exps,
         baps,
         memo,
-        cur.at.0,
+        cur.at,
         cur.count,
         limit,
         most,
@@ -140,7 +137,6 @@ fn framed(
     if c.stopped {
         return c;
     }
-    let at = place(c.at.0);
     let mut ends = tail_cells(src, limit);
     each(
         table,
@@ -155,7 +151,7 @@ fn framed(
         exps,
         baps,
         memo,
-        at,
+        c.at,
         c.count,
         limit,
         most,
@@ -206,9 +202,9 @@ fn synced(
         &mut exps,
         &mut baps,
         &mut memo,
+        BitPlace(0),
         0,
-        0,
-        48,
+        BitPlace(48),
         most,
         0,
         AFTER_HEADER,
@@ -250,7 +246,7 @@ pub fn parse(
     if src.len() < 6 {
         return refusal(halted(BitPlace(0), 0, 1));
     }
-    let word = bits_at(src, 0, 16);
+    let word = bits_at(src, BitPlace(0), 16);
     if word == SYNC {
         return synced(src, names, blocks, indexes, firsts, widths, values);
     }

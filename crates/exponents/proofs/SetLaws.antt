@@ -152,7 +152,6 @@ pub record Standing (s : List ℕ) (l : ℕ) (q : Part) (slot size : ℕ) (o : O
   pub fills : Fills most m
   pub byte : prev < 256
   pub low : bin + 12 * left ≤ 851955
-  pub place : p < 65536
 
 -- a record in the room, part by part
 abbrev kept : Room → ℕ → ℕ → ℤ → ℤ → ℕ → ℕ → Room
@@ -172,9 +171,9 @@ kept-same m n name p v b i = record {
   values = length-set (m .values) n v;
 }
 
-pub standing-first : (s : List ℕ) (l : ℕ) (q : Part) (slot strategy absexp most : ℕ) (old exps : List ℕ) (left bin prev p n : ℕ) (m : Room) → Fills most m → Held old → absexp ≤ 15 → exps ≡ begunOf slot absexp old → prev ≡ startOf slot absexp → left < 65536 → bin < 65536 → p < 65536
+pub standing-first : (s : List ℕ) (l : ℕ) (q : Part) (slot strategy absexp most : ℕ) (old exps : List ℕ) (left bin prev p n : ℕ) (m : Room) → Fills most m → Held old → absexp ≤ 15 → exps ≡ begunOf slot absexp old → prev ≡ startOf slot absexp → left < 65536 → bin < 65536
     → Standing s l q slot (sizeOf strategy) (rest s l q slot (sizeOf strategy) left bin prev exps p n m) most exps m left bin prev exps p n m
-standing-first s l q slot strategy absexp most old exps left bin prev p n m fills held small e f h k place = record {
+standing-first s l q slot strategy absexp most old exps left bin prev p n m fills held small e f h k = record {
   whole = refl;
   laid = laid-none slot exps;
   held = rw e (laid-begun old slot absexp (omega arith) .held held);
@@ -182,7 +181,6 @@ standing-first s l q slot strategy absexp most old exps left bin prev p n m fill
   fills = fills;
   byte = omega (arith, start-low slot absexp small);
   low = omega arith;
-  place = place;
 }
 
 module _ {s : List ℕ} {l name : ℕ} {b i : ℤ} {slot size : ℕ} {o : Out (List ℕ)} {most : ℕ} {old : List ℕ} {first : Room} {left bin prev : ℕ} {exps : List ℕ} {p n : ℕ} {m : Room}
@@ -203,9 +201,9 @@ module _ {s : List ℕ} {l name : ℕ} {b i : ℤ} {slot size : ℕ} {o : Out (L
         standing-refused k h c e =
             group-refused s l (part name b i) slot size left bin prev exps p n m c some within most (at .fills) free v ev g eg (kept m n name b i p v) (kept-is m n name p v b i) k h e exps ∙ sym (at .whole)
 
-        pub standing-moved : (x y z : ℕ) → g ≡ Moved x y z → (exps′ : List ℕ) → exps′ ≡ laidOf exps slot size bin x y z → size ≤ 4 → (step : ℕ) → step ≡ 3 * size → l < 65536
+        pub standing-moved : (x y z : ℕ) → g ≡ Moved x y z → (exps′ : List ℕ) → exps′ ≡ laidOf exps slot size bin x y z → size ≤ 4 → (step : ℕ) → step ≡ 3 * size
             → Standing s l (part name b i) slot size o most old first (left - 1) (bin + step) z exps′ (p + 7) (n + 1) (kept m n name b i p v)
-        standing-moved x y z h exps′ eb small step es ends =
+        standing-moved x y z h exps′ eb small step es =
             record {
               whole = at .whole ∙ moved;
               laid = laid-then (at .laid) group;
@@ -214,7 +212,6 @@ module _ {s : List ℕ} {l name : ℕ} {b i : ℤ} {slot size : ℕ} {o : Out (L
               fills = same-fills (kept-same m n name p v b i) most (at .fills);
               byte = omega (arith, exponents .third);
               low = let k = at .low in omega arith;
-              place = omega arith;
             }
           where
             exponents : Low x y z

@@ -9,6 +9,7 @@ use crate::put;
 use crate::start_of;
 use bits::BitPlace;
 use bits::bits_at;
+use bits::past;
 use slots::CPL;
 use syntax::Cursor;
 use syntax::going;
@@ -43,9 +44,9 @@ pub fn read_exponents(
     widths: &mut [u16],
     values: &mut [u32],
     exps: &mut [u8; 1792],
-    at: u16,
+    at: BitPlace,
     count: usize,
-    limit: u16,
+    limit: BitPlace,
     most: usize,
     name: u8,
     block: i8,
@@ -56,8 +57,8 @@ pub fn read_exponents(
     end: u16,
     absexp: u8,
 ) -> Cursor
-    requires { ⌜ Ready (now src) limit most (room (now names) (now blocks) (now indexes) (now firsts) (now widths) (now values)) (now exps) absexp ⌝ }
-    ensures { λ r. ⌜ SetRead (now (src .entry)) limit (part name block index) slot strategy start end absexp (now (exps .entry)) at count (room (now (names .entry)) (now (blocks .entry)) (now (indexes .entry)) (now (firsts .entry)) (now (widths .entry)) (now (values .entry)))
+    requires { ⌜ Ready (now src) (limit .0) most (room (now names) (now blocks) (now indexes) (now firsts) (now widths) (now values)) (now exps) absexp ⌝ }
+    ensures { λ r. ⌜ SetRead (now (src .entry)) (limit .0) (part name block index) slot strategy start end absexp (now (exps .entry)) (at .0) count (room (now (names .entry)) (now (blocks .entry)) (now (indexes .entry)) (now (firsts .entry)) (now (widths .entry)) (now (values .entry)))
         r (now (exps .exit)) (room (now (names .exit)) (now (blocks .exit)) (now (indexes .exit)) (now (firsts .exit)) (now (widths .exit)) (now (values .exit))) ⌝ }
 {
     let step = 3 * group_size(strategy);
@@ -68,25 +69,25 @@ pub fn read_exponents(
     let mut n = count;
     begin(exps, slot, absexp);
     while 0 < left {
-        if (limit as u32) < p as u32 + 7 {
-            return halted(BitPlace(p), n, 8);
+        if past(p, 7, limit) {
+            return halted(p, n, 8);
         }
         if most <= n {
-            return halted(BitPlace(p), n, 33);
+            return halted(p, n, 33);
         }
         let v = bits_at(src, p, 7);
         names[n] = name;
         blocks[n] = block;
         indexes[n] = index;
-        firsts[n] = p;
+        firsts[n] = p.0;
         widths[n] = 7;
         values[n] = v;
-        p += 7;
+        p = BitPlace(p.0 + 7);
         n += 1;
         let g = decode(prev, v);
         match g {
             Group::Refused(number) => {
-                return halted(BitPlace(p), n, number);
+                return halted(p, n, number);
             }
             Group::Moved(a, b, c) => {
                 lay(exps, slot, strategy, bin, a as u8, b as u8, c as u8);
@@ -96,5 +97,5 @@ pub fn read_exponents(
         bin += step;
         left -= 1;
     }
-    going(BitPlace(p), n)
+    going(p, n)
 }

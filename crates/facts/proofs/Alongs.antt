@@ -1,11 +1,11 @@
 -- What holds along a reading, taken together; and its bit place. Assumes nothing.
 use mathlib.Core.List.{List}
-use Prim.Native.Nat.{ℕ, zero, suc, _+_, _-_, max, _≤_}
+use Prim.Native.Nat.{ℕ, zero, suc, _-_, _≤_}
 use native.Mathlib.Omega.{arith}
 use Rattle.reading.specs.Tree.{Tree}
 use Rattle.reading.specs.Run.{Entry, run}
-use Rattle.cells.specs.Cells.{State, stored, sumOf}
-use Rattle.rows.specs.Syntax.{Item, Block, element, elements, span, mantissas, exponents, when, each, reject, reject-at, put, fill, derive, end, _⨾_, countOf, item, meaning}
+use Rattle.cells.specs.Cells.{State, cellOf, stored, sumOf}
+use Rattle.rows.specs.Syntax.{Item, Block, element, elements, span, mantissas, exponents, when, each, reject, reject-at, put, fill, derive, end, _⨾_, countOf, one, item, meaning}
 use Rattle.facts.specs.Along.{Point, Turning, Inside, Along}
 use Rattle.facts.proofs.Counts.{run-reaches}
 
@@ -24,7 +24,9 @@ module _ (s : List ℕ) (l : ℕ) where
 
       inside-both : (i : Item) (st : State) (p : ℕ) (es : List Entry) → Inside s l Q i st p es → Inside s l R i st p es → Inside s l S i st p es
       inside-both (element name i w a) st p es x y = tt
-      inside-both (elements name i w a k j n) st p es x y = tt
+      inside-both (elements name i w a k j n) st p es x y =
+          turning-both (λ o q fs. Q (element name i w a) o q fs) (λ o q fs. R (element name i w a) o q fs) (λ o q fs. S (element name i w a) o q fs) (λ o q fs u v. f (element name i w a) o q fs u v) (one name i w a)
+          (cellOf (st .cells) n - j) j k st p es x y
       inside-both (span name k) st p es x y = tt
       inside-both (mantissas name a) st p es x y = tt
       inside-both (exponents t name i) st p es x y = tt
@@ -58,7 +60,7 @@ module _ (s : List ℕ) (l : ℕ) where
 
       inside-place : (i : Item) (st : State) (p : ℕ) (es : List Entry) → p ≤ m → Inside s l Place i st p es
       inside-place (element name i w a) st p es h = tt
-      inside-place (elements name i w a k j n) st p es h = tt
+      inside-place (elements name i w a k j n) st p es h = turning-place (λ o q fs. q ≤ m) (λ o q fs g. g) (one name i w a) (cellOf (st .cells) n - j) j k st p es h
       inside-place (span name k) st p es h = tt
       inside-place (mantissas name a) st p es h = tt
       inside-place (exponents t name i) st p es h = tt

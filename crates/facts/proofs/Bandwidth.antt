@@ -1,9 +1,9 @@
 -- The coupling strategy and the bandwidth of a block: after them its ranges are those that a set of exponents asks for. Assumes nothing.
 use mathlib.Core.Path.{_≡_, refl, ap, sym, _∙_, subst}
 use mathlib.Core.Bool.{Bool, true, false, cond, true≢false}
-use mathlib.Core.List.{List, [], _∷_}
-use mathlib.Core.Logic.{_⊎_, inl, inr, by-cases}
-use Prim.Native.Nat.{ℕ, zero, suc, _+_, _*_, _%_, _^_, min, _≤_, _<_}
+use mathlib.Core.List.{List, _∷_}
+use mathlib.Core.Logic.{inl, inr, by-cases}
+use Prim.Native.Nat.{ℕ, zero, suc, _+_, _*_, _%_, _≤_, _<_}
 use native.Mathlib.Omega.{arith}
 use native.Mathlib.Decide.{ℕ-discrete}
 use lib.Dec.{eqb}
@@ -17,19 +17,18 @@ use Rattle.derivations.specs.Acted.{acted}
 use Rattle.derivations.specs.Steps.{eachOf}
 use Rattle.derivations.specs.Blocks.{coupledIn, extendedIn, endmantOf, cplBinsBy, channelsOf, unknownHere, endmantsOf, endmantsBy}
 use Rattle.derivations.specs.Derivations.{Endmants, puts as putting, endmantsIn, derived}
-use Rattle.rows.specs.Syntax.{Cell, Word, Over, AtLeast, Let, cell, at, holdsOf}
+use Rattle.rows.specs.Syntax.{Let, cell, at}
 use Rattle.annex.specs.Audblk.{cpl-strategy, bandwidth}
 use Rattle.cells.proofs.Cells.{put-sized}
-use Rattle.facts.specs.Along.{Point}
 use Rattle.facts.specs.Bounds.{bounds, mostIn, most, Within}
 use Rattle.facts.specs.Unmet.{Unmet}
-use Rattle.facts.proofs.Cells.{cell-zero, cell-at, cell-beside}
+use Rattle.facts.proofs.Cells.{cell-at, cell-beside}
 use Rattle.facts.proofs.Bounds.{word, may, Changed, changed-none, changed-then, puts}
 use Rattle.facts.proofs.Derived.{fitsDerived, derived-changes}
 use Rattle.facts.proofs.Exponents.{passed}
-use Rattle.facts.proofs.Leaves.{Ranges, leavesUnsent, passes, unsent-same, unsent-fewer, firstItems, afterItems, inner, place-cell, place-at, held-cell, is-true, is-false, skip, whole, put-by}
-use Rattle.facts.proofs.Ranges.{throughBlock, early, settled, early-through, settled-through, Settled, Unsettled, SubBands, Ranged, unsettled-stays, settled-stays, number-same, uses-same, coded-stays}
-use Rattle.facts.proofs.Walking.{Grows, grows-refl, grows-trans, Walks, walks-next, walks-end, walks-map, walked-element, walked-when, walked-derive, walked-each}
+use Rattle.facts.proofs.Leaves.{Ranges, leavesUnsent, passes, unsent-same, unsent-fewer, firstItems, afterItems, inner, place-cell, place-at, held-cell, is-false, skip, whole, put-by}
+use Rattle.facts.proofs.Ranges.{throughBlock, early, settled, Settled, Unsettled, Ranged, unsettled-stays, settled-stays, number-same, uses-same}
+use Rattle.facts.proofs.Walking.{Grows, grows-refl, grows-trans, Walks, walks-next, walks-end, walked-element, walked-when, walked-derive, walked-each}
 
 most-here : (most CPLBEGF ≡ 15) × (most CPL-SUBND-END ≡ 18) × (most SPX-BEGIN ≡ 11) × (most NFCHANS ≡ 5) × (most CH ≡ 4) × (most BLK ≡ 5)
 unfolding most mostIn bounds

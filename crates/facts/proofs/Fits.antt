@@ -181,7 +181,7 @@ module _ (byBounds : Item → Bool) where
     pub fitsIn : Test → Item → Known → Bool
     fitsIn permits (element name i w a) ks = may permits (a .base) (spread a ks) 0 (2 ^ w - 1)
     fitsIn permits (elements name i w a k f n) ks =
-        may permits k 0 0 (upTo ks n - 1) && may permits (a .base) (spread a ((k, 0, upTo ks n - 1) ∷ [])) 0 (2 ^ w - 1)
+        byBounds (element name i w a) && (may permits k 0 0 (upTo ks n - 1) && may permits (a .base) (spread a ((k, 0, upTo ks n - 1) ∷ [])) 0 (2 ^ w - 1))
     fitsIn permits (span name k) ks = true
     fitsIn permits (mantissas name a) ks = may permits (a .base) (spread a ks) 0 tagsMost
     fitsIn permits (exponents s name i) ks = true
@@ -239,16 +239,20 @@ module _ (byBounds : Item → Bool) where
           walked-element s l Q name i b a st p es
           (λ v fs k g _. next-put permits a v 0 (2 ^ b - 1) ks st es fs (p + b) w f h (omega arith) (omega arith) g)
       fits-item permits (elements name i b a k o n) ks h st p es w f =
-          let t = both (may permits k 0 0 (upTo ks n - 1)) (may permits (a .base) (spread a ((k, 0, upTo ks n - 1) ∷ [])) 0 (2 ^ b - 1)) h in
+          let m = both (byBounds (element name i b a)) (may permits k 0 0 (upTo ks n - 1) && may permits (a .base) (spread a ((k, 0, upTo ks n - 1) ∷ [])) 0 (2 ^ b - 1)) h in
+          let t = both (may permits k 0 0 (upTo ks n - 1)) (may permits (a .base) (spread a ((k, 0, upTo ks n - 1) ∷ [])) 0 (2 ^ b - 1)) (m .1) in
           let c = up-to ks (st .cells) n w f in
           walked-elements s l Q name i b a k o n st p es (λ j x q fs. Reached permits st es x q fs)
           (record { changed = changed-none permits (st .cells) w; grows = grows-refl es })
-          (λ j x q fs r d v gs u g.
+          (λ j x q fs r d.
           let e : Changed permits (x .cells) (putIn (x .cells) k j) = puts permits (x .cells) k j k 0 0 (upTo ks n - 1) (d .changed .within) (t .0) (omega arith) (omega arith) (omega arith) (omega arith) in
           let held = cell-put (x .cells) k j (d .changed .within .sized) in
-          let o = cell-zero (putIn (x .cells) k j) in
-          let y = next-put permits a v 0 (2 ^ b - 1) ((k, 0, upTo ks n - 1) ∷ []) (stored x k j) fs gs (q + b) (e .within) (omega arith, tt) (t .1) (omega arith) (omega arith) g in
-          reached-then permits st x _ es fs gs q (q + b) d (record { changed = changed-then permits (x .cells) (putIn (x .cells) k j) _ e (y .reached .changed); grows = g }))
+          let o = cell-zero (putIn (x .cells) k j) in (
+            granted (element name i b a) (stored x k j) q fs (m .0) (e .within),
+            λ v gs u g.
+                let y = next-put permits a v 0 (2 ^ b - 1) ((k, 0, upTo ks n - 1) ∷ []) (stored x k j) fs gs (q + b) (e .within) (omega arith, tt) (t .1) (omega arith) (omega arith) g in
+                reached-then permits st x _ es fs gs q (q + b) d (record { changed = changed-then permits (x .cells) (putIn (x .cells) k j) _ e (y .reached .changed); grows = g }),
+          ))
           (λ j x q fs r d. record { reached = d; knows = tt })
       fits-item permits (span name k) ks h st p es w f = walked-span s l Q name k st p es (λ q fs g. next-same permits ks st (st .bins) es fs q w f g)
       fits-item permits (mantissas name a) ks h st p es w f =

@@ -152,7 +152,7 @@ unfoldable pub inner : Block → Block
 inner end = end
 inner (i ⨾ b) = insideOf i
 
-first-after : (n : ℕ) (b : Block) → (firstItems n b ⧺ afterItems n b) ≡ b
+pub first-after : (n : ℕ) (b : Block) → (firstItems n b ⧺ afterItems n b) ≡ b
 unfolding firstItems afterItems _⧺_
 first-after zero b = refl
 first-after (suc n) end = refl

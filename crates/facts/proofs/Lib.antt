@@ -19,4 +19,5 @@ pub mod Unmet
 pub mod Pointed
 pub mod Visited
 pub mod Unwrapped
+pub mod Differences
 pub mod Unclamped

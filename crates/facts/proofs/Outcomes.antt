@@ -1,6 +1,6 @@
 -- Every outcome of the definition: its refusals have numbers of the scope, it stays within the frame, and its spans have one of six names. Assumes nothing.
 use mathlib.Core.Path.{_≡_, refl, sym, subst}
-use mathlib.Core.Bool.{Bool, true, false, cond, not, _||_, _&&_, true≢false}
+use mathlib.Core.Bool.{Bool, true, false, cond, _||_, _&&_, true≢false}
 use mathlib.Core.List.{List, [], _∷_}
 use Prim.Native.Nat.{ℕ, zero, suc, _+_, _-_, _*_, _/_, _%_, _^_, max, _≤_}
 use native.Mathlib.Omega.{arith}
@@ -28,7 +28,7 @@ use Rattle.allocation.specs.State.{Allocated, allocated, bySent, allocatedOf}
 use Rattle.allocation.specs.declared.Codes.{Codes}
 use Rattle.allocation.specs.declared.Parameters.{Parameters}
 use Rattle.allocation.specs.declared.Parameters.the-variants.{NeverSent, Sent}
-use Rattle.cells.specs.Cells.{State, cellOf, stored, sumOf}
+use Rattle.cells.specs.Cells.{State, stored, sumOf}
 use Rattle.cells.specs.Names.{FRMSIZ}
 use Rattle.derivations.specs.Acted.{Acted, acted}
 use Rattle.derivations.specs.Allocating.{allocateIn, allocStateOf}

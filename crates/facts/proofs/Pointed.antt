@@ -1,14 +1,14 @@
 -- No pointer that is asked for is above 15, or 19 in a slot of the adaptive hybrid transform, wherever a reading comes to mantissas. Assumes nothing.
 use mathlib.Core.Path.{_≡_, refl, ap, sym, _∙_, subst}
-use mathlib.Core.Bool.{Bool, true, false, cond, not, _&&_, true≢false}
+use mathlib.Core.Bool.{Bool, true, false, cond, _&&_, true≢false}
 use mathlib.Core.List.{List, [], _∷_}
 use mathlib.Core.Logic.{by-cases}
-use Prim.Native.Nat.{ℕ, zero, suc, _+_, _*_, _%_, _≤_, _<_}
+use Prim.Native.Nat.{ℕ, zero, suc, _+_, _%_, _≤_, _<_}
 use native.Mathlib.Omega.{arith}
 use native.Mathlib.Decide.{ℕ-discrete}
 use lib.Dec.{eqb}
 use lib.ListN.{length, getD, replicate, length-replicate}
-use Rattle.reading.specs.Run.{Entry, accepted, run}
+use Rattle.reading.specs.Run.{Entry}
 use Rattle.alloc.specs.Allocation.{allocation}
 use Rattle.alloc.specs.declared.Params.{Params}
 use Rattle.alloc.specs.declared.Pointers.the-variants.{Bap, Hebap}
@@ -18,13 +18,12 @@ use Rattle.slots.specs.Held.{bins}
 use Rattle.slots.specs.declared.Shape.{Shape}
 use Rattle.allocation.specs.State.{Allocated, allocated, silentOf, channelOf, leakFor, kindOf, segmentsOf, expsIn, pointedOf, pointersOf, pointSlot, pointSlots, paramsFor, bySent, allocatedOf}
 use Rattle.allocation.specs.declared.AllocState.{AllocState}
-use Rattle.allocation.specs.declared.Codes.{Codes}
 use Rattle.allocation.specs.declared.Parameters.{Parameters}
 use Rattle.allocation.specs.declared.Parameters.the-variants.{NeverSent, Sent}
 use Rattle.allocation.specs.declared.Segments.{Segments}
 use Rattle.allocation.proofs.StateLaws.{pointed-length, pointed-at, pointed-apart}
 use Rattle.allocation.proofs.Unmet.{bap-within, hebap-within}
-use Rattle.cells.specs.Cells.{State, state, Addr, cellOf, putIn, stored, placeOf}
+use Rattle.cells.specs.Cells.{State, cellOf, putIn, stored, placeOf}
 use Rattle.cells.specs.Names.{AHT-READ, AHTINU, BLK, CHINCPL, CPLEND, CPLINU, CPLSTRT, ENDMANT, FSCOD, LFEON, MANTISSA-STARTS, NFCHANS, NUMBLKS, TAGS}
 use Rattle.derivations.specs.Acted.{Acted, acted}
 use Rattle.derivations.specs.Steps.{tabOf}
@@ -32,22 +31,22 @@ use Rattle.derivations.specs.Allocating.{allocStateOf, segmentsIn, allocateIn}
 use Rattle.derivations.specs.Blocks.{flagOf, unknownHere, endmantsBy}
 use Rattle.derivations.specs.Shapes.{flagsOf, valuesOf, shapeOf}
 use Rattle.derivations.specs.Derivations.{Numblks, Nfchans, Fresh, Ncplblks, CplStrategies, ChStrategies, Regions, Blkstrtinfo, SpxRange, Nspxbnds, CplRange, Ncplbnd, Nrematbd, Endmants, Defaults, Allocation, AhtRead, puts as putting, endmantsIn, derived}
-use Rattle.rows.specs.Syntax.{Item, Block, element, elements, span, mantissas, exponents, when, each, reject, reject-at, put, fill, derive, end, _⨾_, _⧺_, cell, at, meaning}
+use Rattle.rows.specs.Syntax.{Item, Block, element, elements, span, mantissas, exponents, when, each, reject, reject-at, put, fill, derive, end, _⨾_, _⧺_, cell, at}
 use Rattle.annex.specs.Bsi.{bsi}
 use Rattle.annex.specs.Audfrm.{audfrm}
 use Rattle.annex.specs.Audblk.{dynamics, spx-strategy, spx-coordinates, cpl-strategy, cpl-coordinates, rematrixing, bandwidth, exponents-of-block, parameters, deltas, skip-field, quantized, audblk}
 use Rattle.annex.specs.Annex.{header, audblks, body}
-use Rattle.annex.specs.Frame.{start, bytesOf}
-use Rattle.facts.specs.Along.{Point, Along}
+use Rattle.annex.specs.Frame.{start}
+use Rattle.facts.specs.Along.{Point}
 use Rattle.facts.specs.Bounds.{tagsMost, bounds, mostIn, most, Within}
 use Rattle.facts.specs.Unmet.{mostPointer, Pointers, Pointed, AllPointed}
 use Rattle.facts.proofs.Cells.{cell-beside}
 use Rattle.facts.proofs.Bounds.{both, may, Changed, puts}
 use Rattle.facts.proofs.Bounded.{fitting, pages, header-within}
-use Rattle.facts.proofs.Fits.{fits-block, Reached}
+use Rattle.facts.proofs.Fits.{fits-block}
 use Rattle.facts.proofs.Leaves.{place-cell, place-at, held-cell}
 use Rattle.facts.proofs.Uses.{numblks-most}
-use Rattle.facts.proofs.Walking.{Walks, Walked, walks-end, walks-next, walks-map, walks-append, walked-element, walked-elements, walked-span, walked-mantissas, walked-exponents, walked-when, walked-reject, walked-reject-at, walked-put, walked-fill, walked-derive, walked-each}
+use Rattle.facts.proofs.Walking.{Walks, Walked, walks-end, walks-next, walks-append, walked-element, walked-elements, walked-span, walked-mantissas, walked-exponents, walked-when, walked-reject, walked-reject-at, walked-put, walked-fill, walked-derive, walked-each}
 
 -- the pointers of a slot
 module _ (st : AllocState) (p : Params) (shape : Shape) (d : Segments) (exps : List ℕ) where
@@ -166,7 +165,7 @@ module _ (s : List ℕ) (l : ℕ) where
   mutual
     sized-item : (i : Item) (st : State) (p : ℕ) (es : List Entry) → Sized st → Walked s l Anywhere i st p es Held
     sized-item (element name i w a) st p es h = walked-element s l Anywhere name i w a st p es (λ v fs _ _ _. h)
-    sized-item (elements name i w a k f n) st p es h = walked-elements s l Anywhere name i w a k f n st p es (λ j. Held) h (λ j x q fs _ g v gs _ _. g) (λ j x q fs _ g. g)
+    sized-item (elements name i w a k f n) st p es h = walked-elements s l Anywhere name i w a k f n st p es (λ j. Held) h (λ j x q fs _ g. (tt, λ v gs _ _. g)) (λ j x q fs _ g. g)
     sized-item (span name k) st p es h = walked-span s l Anywhere name k st p es (λ q fs _. h)
     sized-item (mantissas name a) st p es h = walked-mantissas s l Anywhere name a st p es (λ v q fs _ _. h)
     sized-item (exponents x name i) st p es h = walked-exponents s l Anywhere x name i st p es (λ e q fs _. h)

@@ -1,24 +1,21 @@
 -- How many tags the mantissas of a block can have: six in each of 253 bins of seven slots. Assumes nothing.
-use mathlib.Core.Path.{_≡_, refl, subst}
+use mathlib.Core.Path.{_≡_, subst}
 use mathlib.Core.Bool.{Bool, true, false, cond, not, _&&_, _||_}
-use mathlib.Core.List.{List, [], _∷_}
-use Prim.Native.Nat.{ℕ, zero, suc, _+_, _-_, _*_, _/_, _^_, min, _≤_}
+use mathlib.Core.List.{List, []}
+use Prim.Native.Nat.{ℕ, zero, suc, _+_, _-_, _*_, _^_, min, _≤_}
 use native.Mathlib.Omega.{arith}
-use native.Mathlib.Nat.{mul-le-mul-left}
 use lib.Dec.{leb, ltb, eqb}
 use lib.ListN.{getD}
 use Rattle.bits.specs.Bits.{bitsAt}
 use Rattle.reading.specs.Tree.{Skim, stop, fail, at, take, _>>-_}
-use Rattle.reading.specs.Run.{Result, accepted, refused, Outcome, out, skim}
-use Rattle.reading.proofs.Laws.{test}
+use Rattle.reading.specs.Run.{accepted, refused, out, skim}
 use Rattle.tables.specs.Small.{gaqBits}
 use Rattle.slots.specs.Slots.{CPL, LFE, rangeOf, readOf}
 use Rattle.slots.specs.declared.Shape.{Shape}
 use Rattle.slots.specs.declared.Range.{Range}
 use Rattle.mantissas.specs.Mantissas.{conventionalOf}
-use Rattle.mantissas.specs.declared.Groups.{Groups}
 use Rattle.hybrid.specs.Hybrid.{activeIn, gainsOf, smallOf, largeOf, premantissaOf, premantissasOf, binOf, binsOf, ahtOf}
-use Rattle.plan.specs.Plan.{Along, along, visitOf, visitIf, slotsOf, mantissasOf}
+use Rattle.plan.specs.Plan.{Along, visitOf, visitIf, slotsOf, mantissasOf}
 use Rattle.cells.specs.Cells.{State}
 use Rattle.derivations.specs.Shapes.{mantissasIn}
 use Rattle.facts.specs.Bounds.{tagsMost}

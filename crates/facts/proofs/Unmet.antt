@@ -12,21 +12,21 @@ use Rattle.cells.specs.Names.{BLK, CHBWCOD, CPL-SUBND-END, CPLBEGF, CPLINUS, CP
 use Rattle.derivations.specs.Allocating.{freshBy, allocateIn}
 use Rattle.derivations.specs.Derivations.{Allocation, Fresh, derived}
 use Rattle.rows.specs.Syntax.{Block, _⧺_, cell}
-use Rattle.annex.specs.Bsi.{mixdef3, mixing-metadata, informational-metadata, bsi}
+use Rattle.annex.specs.Bsi.{bsi}
 use Rattle.annex.specs.Audfrm.{flags, coupling, strategies, hybrid, offsets, audfrm}
 use Rattle.annex.specs.Audblk.{dynamics, spx-strategy, spx-coordinates, cpl-strategy, cpl-coordinates, rematrixing, bandwidth, exponents-of-block, parameters, deltas, skip-field, quantized, audblk}
 use Rattle.annex.specs.Annex.{audblks, body}
 use Rattle.facts.specs.Along.{Point}
-use Rattle.facts.specs.Bounds.{tagsMost, bounds, mostIn, most, Within}
+use Rattle.facts.specs.Bounds.{tagsMost, Within}
 use Rattle.facts.specs.Unmet.{Offsets, Ready, Unmet, NoneMet}
 use Rattle.cells.proofs.Cells.{put-sized}
 use Rattle.facts.proofs.Cells.{cell-zero, cell-at, cell-beside}
 use Rattle.facts.proofs.Bounds.{both, may, Changed, changed-then, puts}
 use Rattle.facts.proofs.Bounded.{header-within}
 use Rattle.facts.proofs.Derived.{fitsFresh, fresh-changes}
-use Rattle.facts.proofs.Exponents.{afterExponents, after-exponents, exponents-through, after-through, fewer, blk-same, str-same, coupling-stays, channels-stay, lfe-stays, covered, Covered}
+use Rattle.facts.proofs.Exponents.{afterExponents, after-exponents, after-through, fewer, blk-same, str-same, coupling-stays, channels-stay, lfe-stays, covered, Covered}
 use Rattle.facts.proofs.Ranges.{throughBlock, early, settled, early-through, settled-through, exponents-settled, cplinu-same, Settled, Unsettled, Ranged, unsettled-stays, settled-stays, block-same, through-same, settled-kept, ranged-stays, ends-fit, Rated, rated-stays, rated-through, rated-kept, throughExponents}
-use Rattle.facts.proofs.Bandwidth.{Strategy, strategy-walk, Bandwidth, bandwidth-walk}
+use Rattle.facts.proofs.Bandwidth.{strategy-walk, bandwidth-walk}
 use Rattle.facts.proofs.Uses.{unset, uses, Unset, unset-stays, Linked, linked-stays, Uses, uses-stay, Blank, header-blank, bsi-walk, uses-walk, numblks-most}
 use Rattle.facts.proofs.Leaves.{Ranges, leaves, leavesUnsent, unsent-fewer, passes, unsent-leaves, unsent-same, firstItems, afterItems, place-cell, held-cell, is-false, skip, whole, element-by}
 use Rattle.facts.proofs.Sent.{offsets-grow, leaks-grow, LeaksIfSent, leaks-stay, Before, parameters-walked}

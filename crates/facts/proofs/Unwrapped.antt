@@ -2,21 +2,21 @@
 use mathlib.Core.Path.{_≡_, refl, ap, sym, _∙_, subst}
 use mathlib.Core.Bool.{Bool, true, false, cond, not, _&&_, true≢false}
 use mathlib.Core.List.{List, [], _∷_}
-use mathlib.Core.Logic.{_⊎_, inl, inr}
-use Prim.Native.Nat.{ℕ, zero, suc, _+_, _-_, _*_, _%_, _^_, _≤_, _<_}
+use mathlib.Core.Logic.{inl, inr}
+use Prim.Native.Nat.{ℕ, suc, _+_, _-_, _*_, _%_, _^_, _≤_, _<_}
 use native.Mathlib.Omega.{arith}
 use native.Mathlib.Nat.{mul-le-mul-left, mul-le-mul-right}
 use lib.Dec.{eqb, leb, ltb}
 use lib.ListN.{length}
-use borrow.Author.Tests.{leb-true, eqb-true, not-false}
-use Rattle.reading.specs.Run.{Entry, accepted, run}
+use borrow.Author.Tests.{leb-true, not-false}
+use Rattle.reading.specs.Run.{Entry}
 use Rattle.cells.specs.Cells.{State, Addr, cellOf, putIn, stored, placeOf, heldOf}
-use Rattle.cells.specs.Names.{AHT-READ, AHT-TAGS, AHTINU, BLK, CHBWCOD, CPL-BLOCKS, CPL-SUBND-END, CPLBEGF, CPLBNDSTRC, CPLENDF, CPLINUS, FRMSIZ, LFEON, NUMBLKS, NUMBLKSCOD, SPX-BEGIN, SPX-BLOCKS, SPX-END, SPXBEGF, SPXBNDSTRC, SPXENDF, TAGS}
+use Rattle.cells.specs.Names.{AHT-READ, AHT-TAGS, AHTINU, BLK, CPL-BLOCKS, CPL-SUBND-END, CPLBEGF, CPLBNDSTRC, CPLINUS, FRMSIZ, LFEON, NUMBLKS, SPX-BEGIN, SPX-BLOCKS, SPX-END, SPXBNDSTRC, TAGS}
 use Rattle.derivations.specs.Steps.{eachOf}
 use Rattle.derivations.specs.Frames.{holding, powersBelow}
 use Rattle.derivations.specs.Blocks.{flagOf, coupledIn, channelsOf, markedIn, readOf, ahtReadBy}
-use Rattle.derivations.specs.Derivations.{Numblks, Ncplblks, Blkstrtinfo, SpxRange, Nspxbnds, CplRange, Ncplbnd, Endmants, AhtRead, derived}
-use Rattle.rows.specs.Syntax.{Count, Fixed, Held, Value, Here, Let, Less, Plus, Minus, Item, Block, element, elements, span, mantissas, exponents, when, each, reject, reject-at, put, fill, derive, end, _⨾_, _⧺_, cell, countOf, amountOf, meaning}
+use Rattle.derivations.specs.Derivations.{AhtRead, derived}
+use Rattle.rows.specs.Syntax.{Count, Fixed, Held, Value, Here, Let, Less, Plus, Minus, Item, Block, element, elements, span, mantissas, exponents, when, each, reject, reject-at, put, fill, derive, _⧺_, cell, amountOf, meaning}
 use Rattle.annex.specs.Syncinfo.{syncinfo}
 use Rattle.annex.specs.Bsi.{bsi}
 use Rattle.annex.specs.Audfrm.{audfrm}
@@ -34,7 +34,7 @@ use Rattle.facts.proofs.Bounds.{most-word, may, Changed, puts, none-wit
 use Rattle.facts.proofs.Bounded.{fitting, pages}
 use Rattle.facts.proofs.Cells.{cell-at, cell-beside}
 use Rattle.facts.proofs.Counts.{run-reaches}
-use Rattle.facts.proofs.Derived.{Limits, limits, sum-most, flag-most, fitsDerived, derived-changes}
+use Rattle.facts.proofs.Derived.{limits, sum-most, flag-most, fitsDerived, derived-changes}
 use Rattle.facts.proofs.Fits.{fits-block}
 use Rattle.facts.proofs.Leaves.{Ranges, outside, leaves, leaves-same, firstItems, afterItems, place-cell, held-cell}
 use Rattle.facts.proofs.Outcomes.{frmsiz-most}
@@ -73,7 +73,7 @@ counts-to (Held a) = true
 
 small : Item → Bool
 small (element name i w a) = leb (2 ^ w) word
-small (elements name i w a k f n) = leb (2 ^ w) word
+small (elements name i w a k f n) = true
 small (span name k) = true
 small (mantissas name a) = true
 small (exponents x name i) = true
@@ -113,7 +113,7 @@ module _ (s : List ℕ) (l : ℕ) where
   by-bounds : (i : Item) (st : State) (p : ℕ) (es : List Entry) → small i ≡ true → Within (st .cells) → Rest s l i st p es
   unfolding small counts-to
   by-bounds (element name i w a) st p es h k q c = leb-true (2 ^ w) word h
-  by-bounds (elements name i w a j f n) st p es h k q c = (leb-true (2 ^ w) word h, omega (arith, k .below n, most-word n))
+  by-bounds (elements name i w a j f n) st p es h k q c = omega (arith, k .below n, most-word n)
   by-bounds (span name j) st p es h k q c = tt
   by-bounds (mantissas name a) st p es h k q c = λ v e. omega (arith, tags-most st s p l v e)
   by-bounds (exponents x name i) st p es h k q c = tt

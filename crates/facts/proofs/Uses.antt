@@ -1,9 +1,9 @@
 -- The use of coupling by block, as the frame says it: a block that sends no strategy is coupled as the block before it. Assumes nothing.
 use mathlib.Core.Path.{_≡_, refl, ap, sym, _∙_, subst}
-use mathlib.Core.Bool.{Bool, true, false, _&&_}
+use mathlib.Core.Bool.{Bool, true, _&&_}
 use mathlib.Core.List.{List, [], _∷_}
 use mathlib.Core.Logic.{_⊎_, inl, inr, by-cases}
-use Prim.Native.Nat.{ℕ, zero, suc, _+_, _-_, _*_, _%_, _^_, _≤_, _<_}
+use Prim.Native.Nat.{ℕ, zero, suc, _+_, _-_, _*_, _%_, _≤_, _<_}
 use native.Mathlib.Omega.{arith}
 use native.Mathlib.Decide.{ℕ-discrete}
 use lib.Dec.{leb}
@@ -15,13 +15,13 @@ use Rattle.cells.specs.Cells.{State, cellOf, putIn, stored, placeOf, heldOf}
 use Rattle.cells.specs.Names.{ACMOD, BLK, CHBWCOD, CPLINUS, CPLSTRE, FSCOD, NFCHANS, NUMBLKS}
 use Rattle.derivations.specs.Frames.{nfchansBy}
 use Rattle.derivations.specs.Derivations.{Nfchans, derived}
-use Rattle.rows.specs.Syntax.{Is, Let, cell, at, holdsOf, meaning}
+use Rattle.rows.specs.Syntax.{Let, at, meaning}
 use Rattle.annex.specs.Syncinfo.{syncinfo}
 use Rattle.annex.specs.Bsi.{mixdef3, mixing-metadata, informational-metadata, bsi}
 use Rattle.annex.specs.Audfrm.{coupling}
 use Rattle.annex.specs.Annex.{header}
 use Rattle.annex.specs.Frame.{start}
-use Rattle.facts.specs.Along.{Point, Along}
+use Rattle.facts.specs.Along.{Along}
 use Rattle.facts.specs.Bounds.{bounds, mostIn, most, Within}
 use Rattle.facts.specs.Unmet.{Unmet}
 use Rattle.cells.proofs.Cells.{cell-none}
@@ -30,7 +30,7 @@ use Rattle.facts.proofs.Bounds.{both, word, may, Changed, changed-none,
 use Rattle.facts.proofs.Derived.{fitsDerived, derived-changes, nfchans-most}
 use Rattle.facts.proofs.Exponents.{passed}
 use Rattle.facts.proofs.Ranges.{Rated, rated-stays}
-use Rattle.facts.proofs.Leaves.{Ranges, leavesUnsent, passes, unsent-same, unsent-fewer, unsent-none, firstItems, afterItems, inner, place-cell, place-at, held-cell, is-false, skip, whole, put-by, number-by}
+use Rattle.facts.proofs.Leaves.{Ranges, leavesUnsent, passes, unsent-same, unsent-fewer, unsent-none, firstItems, afterItems, inner, place-at, held-cell, is-false, skip, whole, put-by, number-by}
 use Rattle.facts.proofs.Walking.{Grows, grows-refl, grows-trans, Walks, walks-next, walks-end, walks-map, walked-element, walked-when, walked-derive, walked-each}
 
 -- the cells of the uses, and the bandwidth codes

@@ -165,17 +165,24 @@ module _ (s : List ℕ) (l : ℕ) (Q : Item → Point) where
   walked-element name i w a st p es {R} h = record { inside = tt; ends = then-one s l name i w a st p es R h }
 
   pub walked-elements : (name : ℕ) (i : Sum) (w : ℕ) (a : Addr) (k f n : ℕ) (st : State) (p : ℕ) (es : List Entry) (I : ℕ → Point) {R : Point} → I f st p es
-      → ((j : ℕ) (x : State) (q : ℕ) (fs : List Entry) → j < cellOf (st .cells) n → I j x q fs
-      → (v : ℕ) (gs : List Entry) → v < 2 ^ w → Grows fs gs → I (suc j) (stored (stored x k j) (placeOf a (stored x k j .cells)) v) (q + w) gs)
+      → ((j : ℕ) (x : State) (q : ℕ) (fs : List Entry) → j < cellOf (st .cells) n → I j x q fs → Q (element name i w a) (stored x k j) q fs
+      × ((v : ℕ) (gs : List Entry) → v < 2 ^ w → Grows fs gs → I (suc j) (stored (stored x k j) (placeOf a (stored x k j .cells)) v) (q + w) gs))
       → ((j : ℕ) (x : State) (q : ℕ) (fs : List Entry) → cellOf (st .cells) n ≤ j → I j x q fs → R x q fs)
       → Walked (elements name i w a k f n) st p es R
   unfolding Inside item
   walked-elements name i w a k f n st p es I {R} h t r = record {
-    inside = tt;
-    ends = loop-ends s l k (one name i w a) (λ _ _ _. Unit {0}) (cellOf (st .cells) n) I
-        (λ j x q fs d g. (tt, then-one s l name i w a (stored x k j) q fs (I (suc j)) (λ v gs b u _. t j x q fs d g v gs b u)))
-        f st p es R h r;
+    inside = turning s l k (one name i w a) A c I turn (c - f) f st p es (omega arith) h;
+    ends = loop-ends s l k (one name i w a) A c I turn f st p es R h r;
   }
+    where
+      c : ℕ
+      c = cellOf (st .cells) n
+
+      A : Point
+      A x q fs = Q (element name i w a) x q fs
+
+      turn : (j : ℕ) (x : State) (q : ℕ) (fs : List Entry) → j < c → I j x q fs → A (stored x k j) q fs × Then s l (one name i w a (stored x k j)) q fs (I (suc j))
+      turn j x q fs d g = let u = t j x q fs d g in (u .0, then-one s l name i w a (stored x k j) q fs (I (suc j)) (λ v gs b o _. u .1 v gs b o))
 
   pub walked-span : (name k : ℕ) (st : State) (p : ℕ) (es : List Entry) {R : Point}
       → ((q : ℕ) (fs : List Entry) → Grows es fs → R st q fs) → Walked (span name k) st p es R

@@ -6,8 +6,8 @@ use mathlib.Core.Logic.{_⊎_}
 use Prim.Native.Nat.{ℕ, zero, suc, _-_}
 use Rattle.reading.specs.Tree.{Tree}
 use Rattle.reading.specs.Run.{Entry, accepted, run}
-use Rattle.cells.specs.Cells.{State, stored, sumOf}
-use Rattle.rows.specs.Syntax.{Item, Block, element, elements, span, mantissas, exponents, when, each, reject, reject-at, put, fill, derive, end, _⨾_, holdsOf, countOf, item, meaning}
+use Rattle.cells.specs.Cells.{State, cellOf, stored, sumOf}
+use Rattle.rows.specs.Syntax.{Item, Block, element, elements, span, mantissas, exponents, when, each, reject, reject-at, put, fill, derive, end, _⨾_, holdsOf, countOf, one, item, meaning}
 
 -- what holds of a state, a place and the records so far
 abbrev pub Point : Type 1
@@ -30,10 +30,10 @@ module _ (s : List ℕ) (l : ℕ) where
 
   module _ (Q : Item → Point) where
     unfoldable mutual
-      -- inside an item
+      -- inside an item: of each turn of repeated elements, and of a block
       pub Inside : Item → State → ℕ → List Entry → Type 0
       Inside (element name i w a) st p es = Unit {0}
-      Inside (elements name i w a k f n) st p es = Unit {0}
+      Inside (elements name i w a k f n) st p es = Turning (λ x q fs. Q (element name i w a) x q fs) (one name i w a) (cellOf (st .cells) n - f) f k st p es
       Inside (span name k) st p es = Unit {0}
       Inside (mantissas name a) st p es = Unit {0}
       Inside (exponents x name i) st p es = Unit {0}

@@ -57,11 +57,12 @@ pub record Ready (es : List Entry) (m : List ℕ) : Type 0 where
   pub some : 1 ≤ cellOf m NFCHANS
   pub ends : EndsFit m
 
--- a set of exponents that is read: it is of one of the seven slots, its strategy is D15, D25 or D45, its range has a bin and ends by bin 253, its groups
--- reach the end, and do not pass bin 253
+-- the bin past the groups of a set of exponents
 abbrev pub pastGroups : List ℕ → ℕ → ℕ
 pastGroups m slot = firstOf slot (startOf m slot) + 3 * sizeOf (strategyOf m slot) * groupsOf slot (strategyOf m slot) (startOf m slot) (endOf m slot)
 
+-- a set of exponents that is read: it is of one of the seven slots, its strategy is D15, D25 or D45, its range has a bin and ends by bin 253, its groups
+-- reach the end, and do not pass bin 253
 pub record SetFits (m : List ℕ) (slot : ℕ) : Type 0 where
   pub among : slot < 7
   pub strategy : (1 ≤ strategyOf m slot) × (strategyOf m slot ≤ 3)

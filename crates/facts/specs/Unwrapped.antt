@@ -36,7 +36,7 @@ pub record PutsFit (k : ℕ) (m : List ℕ) : Type 0 where
 -- an element's value is below a power of 2; a loop puts its numbers into its counter
 abbrev pub Unwrapped : List ℕ → ℕ → Item → Point
 Unwrapped s l (element name i w a) st p es = 2 ^ w ≤ word
-Unwrapped s l (elements name i w a k f n) st p es = (2 ^ w ≤ word) × (cellOf (st .cells) n ≤ word)
+Unwrapped s l (elements name i w a k f n) st p es = cellOf (st .cells) n ≤ word
 Unwrapped s l (span name k) st p es = Unit {0}
 Unwrapped s l (mantissas name a) st p es = (v : List ℕ) → skim (mantissasIn st) s p l .result ≡ accepted v → getD v 0 0 < word
 Unwrapped s l (exponents x name i) st p es = Unit {0}

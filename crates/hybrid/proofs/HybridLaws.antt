@@ -11,6 +11,7 @@ use lib.Seq.{getD-set-same, getD-set-other, getD-at}
 use borrow.Author.Tests.{eq-eqb, ne-eqb, lt-ltb, le-ltb}
 use Rattle.reading.specs.Tree.{Skim, stop, fail, take, _>>-_}
 use Rattle.reading.specs.Run.{Result, accepted, refused, Outcome, out, skim}
+use Rattle.bits.specs.declared.BitPlace.{BitPlace}
 use Rattle.skim.specs.declared.Look.{Look}
 use Rattle.skim.specs.declared.Look.the-variants.{Past, Found}
 use Rattle.hybrid.specs.declared.Gains.{Gains}
@@ -26,8 +27,8 @@ module _ (s : List ℕ) (p w l : ℕ) (k : ℕ → Skim ℕ) (r : Look) (e : r �
   last-past : r ≡ Past → outcome 8 0 p ≡ skim (take w k) s p l
   last-past f = sym (look-past s p w l k r e f)
 
-  last-on : (v q a : ℕ) → r ≡ Found v q → k v ≡ stop a → outcome 0 a q ≡ skim (take w k) s p l
-  last-on v q a f g = sym (look-on s p w l k r e v q f ∙ rw g (skim-stop s q l a))
+  last-on : (v : ℕ) (q : BitPlace) (a : ℕ) → r ≡ Found v q → k v ≡ stop a → outcome 0 a (q .0) ≡ skim (take w k) s p l
+  last-on v q a f g = sym (look-on s p w l k r e v q f ∙ rw g (skim-stop s (q .0) l a))
 
 -- a pre-mantissa
 next : ℕ → ℕ → ℕ → ℕ → Skim ℕ
@@ -39,7 +40,7 @@ module _ (s : List ℕ) (p l m gain : ℕ) where
     unfolding premantissaOf
     plain-past f = rw (eq-eqb gain 1 h) (last-past s p m l _ r e f)
 
-    pub plain-on : (v q : ℕ) → r ≡ Found v q → outcome 0 0 q ≡ skim (premantissaOf m gain) s p l
+    pub plain-on : (v : ℕ) (q : BitPlace) → r ≡ Found v q → outcome 0 0 (q .0) ≡ skim (premantissaOf m gain) s p l
     unfolding premantissaOf
     plain-on v q f = rw (eq-eqb gain 1 h) (last-on s p m l _ r e v q 0 f refl)
 
@@ -51,21 +52,21 @@ module _ (s : List ℕ) (p l m gain : ℕ) where
     pub small-past : r ≡ Past → outcome 8 0 p ≡ skim (premantissaOf m gain) s p l
     small-past f = last-past s p b l (next m gain b) r e f ∙ sym opened
 
-    module _ (v q : ℕ) (f : r ≡ Found v q) (t : ℕ) (i : t ≡ 2 ^ (b - 1)) where
-      pub small-on : (v ≡ t → ⊥) → outcome 0 0 q ≡ skim (premantissaOf m gain) s p l
+    module _ (v : ℕ) (q : BitPlace) (f : r ≡ Found v q) (t : ℕ) (i : t ≡ 2 ^ (b - 1)) where
+      pub small-on : (v ≡ t → ⊥) → outcome 0 0 (q .0) ≡ skim (premantissaOf m gain) s p l
       unfolding next
       small-on n = last-on s p b l (next m gain b) r e v q 0 f (rw (← i, ne-eqb v t n)) ∙ sym opened
 
-      module _ (n : v ≡ t) (g : ℕ) (d : g ≡ largeOf m gain) (r' : Look) (e' : r' ≡ lookOf s q g l) where
-        tagged : skim (premantissaOf m gain) s p l ≡ skim (take g (λ _. stop 1)) s q l
+      module _ (n : v ≡ t) (g : ℕ) (d : g ≡ largeOf m gain) (r' : Look) (e' : r' ≡ lookOf s (q .0) g l) where
+        tagged : skim (premantissaOf m gain) s p l ≡ skim (take g (λ _. stop 1)) s (q .0) l
         unfolding next
         tagged = opened ∙ look-on s p b l (next m gain b) r e v q f ∙ rw (← i, eq-eqb v t n, d)
 
-        pub large-past : r' ≡ Past → outcome 8 0 q ≡ skim (premantissaOf m gain) s p l
-        large-past k = last-past s q g l _ r' e' k ∙ sym tagged
+        pub large-past : r' ≡ Past → outcome 8 0 (q .0) ≡ skim (premantissaOf m gain) s p l
+        large-past k = last-past s (q .0) g l _ r' e' k ∙ sym tagged
 
-        pub large-on : (w z : ℕ) → r' ≡ Found w z → outcome 0 1 z ≡ skim (premantissaOf m gain) s p l
-        large-on w z k = last-on s q g l _ r' e' w z 1 k refl ∙ sym tagged
+        pub large-on : (w : ℕ) (z : BitPlace) → r' ≡ Found w z → outcome 0 1 (z .0) ≡ skim (premantissaOf m gain) s p l
+        large-on w z k = last-on s (q .0) g l _ r' e' w z 1 k refl ∙ sym tagged
 
 -- six of them, i of them read
 module _ (s : List ℕ) (l m gain n i tags p : ℕ) where
@@ -91,7 +92,7 @@ module _ (s : List ℕ) (p l hebap gain : ℕ) where
     unfolding binOf
     vector-past f = last-past s p w l (λ _. stop 0) r e f ∙ rw (lt-ltb hebap 8 h, c)
 
-    pub vector-on : (v q : ℕ) → r ≡ Found v q → outcome 0 0 q ≡ skim (binOf hebap gain) s p l
+    pub vector-on : (v : ℕ) (q : BitPlace) → r ≡ Found v q → outcome 0 0 (q .0) ≡ skim (binOf hebap gain) s p l
     unfolding binOf
     vector-on v q f = last-on s p w l (λ _. stop 0) r e v q 0 f refl ∙ rw (lt-ltb hebap 8 h, c)
 
@@ -156,7 +157,7 @@ module _ (s : List ℕ) (at l large n : ℕ) (stored : List ℕ) (p i : ℕ) (so
     pub singled-past : r ≡ Past → outcome 8 (so .gains) p ≡ skim (singlesOf large n []) s at l
     singled-past f = sym (so .goes ∙ word ∙ look-past s p 1 l _ r e f)
 
-    pub singled-on : (v q : ℕ) → r ≡ Found v q → n ≤ 256 → (g : ℕ) → g ≡ cond (eqb v 1) large 1 → Singled s at l large n (set stored i g) q (i + 1)
+    pub singled-on : (v : ℕ) (q : BitPlace) → r ≡ Found v q → n ≤ 256 → (g : ℕ) → g ≡ cond (eqb v 1) large 1 → Singled s at l large n (set stored i g) (q .0) (i + 1)
     singled-on v q f w g c =
         record {
           gains = so .gains ++ (g ∷ []);
@@ -201,12 +202,12 @@ module _ (s : List ℕ) (at l n : ℕ) (stored : List ℕ) (p i : ℕ) (so : Tri
     pub tripled-past : r ≡ Past → outcome 8 (so .gains) p ≡ skim (triplesOf n []) s at l
     tripled-past f = sym (so .goes ∙ composite ∙ look-past s p 5 l _ r e f)
 
-    module _ (v q : ℕ) (f : r ≡ Found v q) where
-      pub tripled-high : 26 < v → outcome 13 (so .gains) q ≡ skim (triplesOf n []) s at l
-      tripled-high k = sym (so .goes ∙ composite ∙ look-on s p 5 l _ r e v q f ∙ rw (lt-ltb 26 v k) (skim-fail s q l 13))
+    module _ (v : ℕ) (q : BitPlace) (f : r ≡ Found v q) where
+      pub tripled-high : 26 < v → outcome 13 (so .gains) (q .0) ≡ skim (triplesOf n []) s at l
+      tripled-high k = sym (so .goes ∙ composite ∙ look-on s p 5 l _ r e v q f ∙ rw (lt-ltb 26 v k) (skim-fail s (q .0) l 13))
 
       pub tripled-on : v ≤ 26 → n ≤ 86 → (a b c : ℕ) → a ≡ 2 ^ (v / 9) → b ≡ 2 ^ (v % 9 / 3) → c ≡ 2 ^ (v % 3)
-          → Tripled s at l n (set (set (set stored (3 * i) a) (3 * i + 1) b) (3 * i + 2) c) q (i + 1)
+          → Tripled s at l n (set (set (set stored (3 * i) a) (3 * i + 1) b) (3 * i + 2) c) (q .0) (i + 1)
       tripled-on k w a b c ea eb ec =
           let g₁ = so .gains ++ (a ∷ []) in
           let g₂ = g₁ ++ (b ∷ []) in
@@ -309,13 +310,13 @@ module _ (s : List ℕ) (l : ℕ) (baps : List ℕ) (slot start n p : ℕ) (r : 
   unfolding ahtOf
   aht-past f = sym (look-past s p 2 l _ r e f)
 
-  module _ (mode q : ℕ) (f : r ≡ Found mode q) (m : ℕ) (c : m ≡ activeIn mode baps slot start n) (g : Gains) (d : GainsOutcome g (skim (gainsOf mode m) s q l)) where
-    after-mode : skim (ahtOf baps slot start n) s p l ≡ skim (gainsOf mode m >>- (λ gains. binsOf mode gains baps slot start n 0 0)) s q l
+  module _ (mode : ℕ) (q : BitPlace) (f : r ≡ Found mode q) (m : ℕ) (c : m ≡ activeIn mode baps slot start n) (g : Gains) (d : GainsOutcome g (skim (gainsOf mode m) s (q .0) l)) where
+    after-mode : skim (ahtOf baps slot start n) s p l ≡ skim (gainsOf mode m >>- (λ gains. binsOf mode gains baps slot start n 0 0)) s (q .0) l
     unfolding ahtOf
     after-mode = look-on s p 2 l _ r e mode q f ∙ rw c
 
-    pub aht-gains : (g .number ≡ 0 → ⊥) → outcome (g .number) 0 (g .place) ≡ skim (ahtOf baps slot start n) s p l
-    aht-gains h = rw (ne-eqb (g .number) 0 h) (sym (after-mode ∙ bind-off _ s l (gainsOf mode m) q (g .number) (g .place) (d .gains) (d .tells) h))
+    pub aht-gains : (g .number ≡ 0 → ⊥) → outcome (g .number) 0 (g .place .0) ≡ skim (ahtOf baps slot start n) s p l
+    aht-gains h = rw (ne-eqb (g .number) 0 h) (sym (after-mode ∙ bind-off _ s l (gainsOf mode m) (q .0) (g .number) (g .place .0) (d .gains) (d .tells) h))
 
-    pub aht-bins : g .number ≡ 0 → (o : Outcome ℕ) → o ≡ skim (binsOf mode (d .gains) baps slot start n 0 0) s (g .place) l → o ≡ skim (ahtOf baps slot start n) s p l
-    aht-bins h o b = b ∙ sym (after-mode ∙ bind-on _ s l (gainsOf mode m) q (g .number) (g .place) (d .gains) (d .tells) h)
+    pub aht-bins : g .number ≡ 0 → (o : Outcome ℕ) → o ≡ skim (binsOf mode (d .gains) baps slot start n 0 0) s (g .place .0) l → o ≡ skim (ahtOf baps slot start n) s p l
+    aht-bins h o b = b ∙ sym (after-mode ∙ bind-on _ s l (gainsOf mode m) (q .0) (g .number) (g .place .0) (d .gains) (d .tells) h)

@@ -1,5 +1,5 @@
 -- The adaptive hybrid transform: gain words, vector indexes and pre-mantissas of a slot, for all blocks of the frame at once
--- (TS 102 366 clauses E.1.2.4, E.2.4.2 and E.2.4.4; A/52 Annex E has the same). Bits inside a span.
+-- (TS 102 366 clauses E.1.2.4, E.2.4.2 and E.2.4.4; A/52 E2.2.4, E3.4.2 and E3.4.4). Bits inside a span.
 use mathlib.Core.Bool.{Bool, true, false, _&&_, cond}
 use mathlib.Core.List.{List, [], _∷_, _++_}
 use Prim.Native.Nat.{ℕ, zero, suc, _+_, _-_, _*_, _/_, _%_, _^_}

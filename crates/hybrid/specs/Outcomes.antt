@@ -9,7 +9,7 @@ use Rattle.hybrid.specs.declared.Gains.{Gains}
 use Rattle.hybrid.specs.declared.Tagged.{Tagged}
 
 abbrev pub tagsOutcome : Tagged → Outcome ℕ
-tagsOutcome r = outcome (r .number) (r .tags) (r .place)
+tagsOutcome r = outcome (r .number) (r .tags) (r .place .0)
 
 -- an array that holds the gains read so far, and gain 1 behind them
 abbrev pub Gained : List ℕ → List ℕ → Type 0
@@ -17,5 +17,5 @@ Gained stored gains = (k : ℕ) → k < 258 → getD stored k 0 ≡ getD gains k
 
 pub record GainsOutcome (r : Gains) (o : Outcome (List ℕ)) : Type 0 where
   pub gains : List ℕ
-  pub tells : outcome (r .number) gains (r .place) ≡ o
+  pub tells : outcome (r .number) gains (r .place .0) ≡ o
   pub stored : Gained (r .gain) gains

@@ -1,5 +1,6 @@
 // The adaptive hybrid transform: gain words, vector indexes and pre-mantissas of a slot (TS 102 366
 // clauses E.1.2.4, E.2.4.2 and E.2.4.4).
+use bits::BitPlace;
 use skim::Look;
 use skim::raw;
 ghost use mathlib.Core.Path.{_≡_};
@@ -17,14 +18,14 @@ ghost use Rattle.hybrid.specs.Outcomes.{tagsOutcome, Gained, GainsOutcom
 // A refusal number, or 0; the place; and the tags counted.
 pub struct Tagged {
     pub number: u8,
-    pub place: u16,
+    pub place: BitPlace,
     pub tags: u16,
 }
 
 // A refusal number, or 0; the place; and the gains read, with gain 1 behind them.
 pub struct Gains {
     pub number: u8,
-    pub place: u16,
+    pub place: BitPlace,
     pub gain: [u8; 258],
 }
 
@@ -105,9 +106,9 @@ fn tag(bits: u16) -> u32
 }
 
 // One pre-mantissa.
-fn premantissa(src: &[u8], at: u16, limit: u16, m: u16, gain: u8) -> Tagged
-    requires { ⌜ (m ≤ 16) × (limit ≤ 8 * length (now src)) ⌝ }
-    ensures { λ r. ⌜ (tagsOutcome r ≡ skim (premantissaOf m gain) (now (src .entry)) at limit) × (r .tags ≤ 1) ⌝ }
+fn premantissa(src: &[u8], at: BitPlace, limit: BitPlace, m: u16, gain: u8) -> Tagged
+    requires { ⌜ (m ≤ 16) × (limit .0 ≤ 8 * length (now src)) ⌝ }
+    ensures { λ r. ⌜ (tagsOutcome r ≡ skim (premantissaOf m gain) (now (src .entry)) (at .0) (limit .0)) × (r .tags ≤ 1) ⌝ }
 {
     if gain == 1 {
         let Look::Found(_, next) = raw(src, at, m, limit) else {
@@ -153,23 +154,24 @@ fn premantissa(src: &[u8], at: u16, limit: u16, m: u16, gain: u8) -> Tagged
 }
 
 // The six pre-mantissas of a bin.
-fn premantissas(src: &[u8], at: u16, limit: u16, m: u16, gain: u8) -> Tagged
-    requires { ⌜ (m ≤ 16) × (limit ≤ 8 * length (now src)) ⌝ }
-    ensures { λ r. ⌜ (tagsOutcome r ≡ skim (premantissasOf m gain 6 0) (now (src .entry)) at limit) × (r .tags ≤ 6) ⌝ }
+fn premantissas(src: &[u8], at: BitPlace, limit: BitPlace, m: u16, gain: u8) -> Tagged
+    requires { ⌜ (m ≤ 16) × (limit .0 ≤ 8 * length (now src)) ⌝ }
+    ensures { λ r. ⌜ (tagsOutcome r ≡ skim (premantissasOf m gain 6 0) (now (src .entry)) (at .0) (limit .0)) × (r .tags ≤ 6) ⌝ }
 {
     let mut p = at;
     let mut tags: u16 = 0;
     let mut i: u16 = 0;
     while i < 6 {
         let t = premantissa(src, p, limit, m, gain);
+        let place = t.place;
         if t.number != 0 {
             return Tagged {
                 number: t.number,
-                place: t.place,
+                place: place,
                 tags: 0,
             };
         }
-        p = t.place;
+        p = place;
         tags += t.tags;
         i += 1;
     }
@@ -181,9 +183,9 @@ fn premantissas(src: &[u8], at: u16, limit: u16, m: u16, gain: u8) -> Tagged
 }
 
 // A bin.
-fn bin(src: &[u8], at: u16, limit: u16, hebap: u8, gain: u8) -> Tagged
-    requires { ⌜ limit ≤ 8 * length (now src) ⌝ }
-    ensures { λ r. ⌜ (tagsOutcome r ≡ skim (binOf hebap gain) (now (src .entry)) at limit) × (r .tags ≤ 6) ⌝ }
+fn bin(src: &[u8], at: BitPlace, limit: BitPlace, hebap: u8, gain: u8) -> Tagged
+    requires { ⌜ limit .0 ≤ 8 * length (now src) ⌝ }
+    ensures { λ r. ⌜ (tagsOutcome r ≡ skim (binOf hebap gain) (now (src .entry)) (at .0) (limit .0)) × (r .tags ≤ 6) ⌝ }
 {
     if hebap < 8 {
         let Look::Found(_, next) = raw(src, at, vq_bits(hebap), limit) else {
@@ -221,9 +223,9 @@ fn third(v: u32) -> u8
 }
 
 // Gain words of one bit.
-fn singles(src: &[u8], at: u16, limit: u16, large: u8, n: usize) -> Gains
-    requires { ⌜ (n ≤ 256) × (limit ≤ 8 * length (now src)) ⌝ }
-    ensures { λ r. ⌜ GainsOutcome r (skim (singlesOf large n []) (now (src .entry)) at limit) ⌝ }
+fn singles(src: &[u8], at: BitPlace, limit: BitPlace, large: u8, n: usize) -> Gains
+    requires { ⌜ (n ≤ 256) × (limit .0 ≤ 8 * length (now src)) ⌝ }
+    ensures { λ r. ⌜ GainsOutcome r (skim (singlesOf large n []) (now (src .entry)) (at .0) (limit .0)) ⌝ }
 {
     let mut gain = [1u8; 258];
     let mut p = at;
@@ -248,9 +250,9 @@ fn singles(src: &[u8], at: u16, limit: u16, large: u8, n: usize) -> Gains
 }
 
 // Composite gain words of five bits: 13 for one above 26.
-fn triples(src: &[u8], at: u16, limit: u16, n: usize) -> Gains
-    requires { ⌜ (n ≤ 86) × (limit ≤ 8 * length (now src)) ⌝ }
-    ensures { λ r. ⌜ GainsOutcome r (skim (triplesOf n []) (now (src .entry)) at limit) ⌝ }
+fn triples(src: &[u8], at: BitPlace, limit: BitPlace, n: usize) -> Gains
+    requires { ⌜ (n ≤ 86) × (limit .0 ≤ 8 * length (now src)) ⌝ }
+    ensures { λ r. ⌜ GainsOutcome r (skim (triplesOf n []) (now (src .entry)) (at .0) (limit .0)) ⌝ }
 {
     let mut gain = [1u8; 258];
     let mut p = at;
@@ -285,9 +287,9 @@ fn triples(src: &[u8], at: u16, limit: u16, n: usize) -> Gains
 }
 
 // The gains of `n` active bins.
-fn read_gains(src: &[u8], at: u16, limit: u16, mode: u32, n: usize) -> Gains
-    requires { ⌜ (n ≤ 256) × (limit ≤ 8 * length (now src)) ⌝ }
-    ensures { λ r. ⌜ GainsOutcome r (skim (gainsOf mode n) (now (src .entry)) at limit) ⌝ }
+fn read_gains(src: &[u8], at: BitPlace, limit: BitPlace, mode: u32, n: usize) -> Gains
+    requires { ⌜ (n ≤ 256) × (limit .0 ≤ 8 * length (now src)) ⌝ }
+    ensures { λ r. ⌜ GainsOutcome r (skim (gainsOf mode n) (now (src .entry)) (at .0) (limit .0)) ⌝ }
 {
     if mode == 0 {
         let gain = [1u8; 258];
@@ -352,11 +354,11 @@ fn read_bins(
     end: u16,
     mode: u32,
     gain: &[u8; 258],
-    at: u16,
-    limit: u16,
+    at: BitPlace,
+    limit: BitPlace,
 ) -> Tagged
-    requires { ⌜ (length (now baps) ≡ 1792) × (slot < 7) × (end ≤ 256) × (limit ≤ 8 * length (now src)) ⌝ }
-    ensures { λ r. ⌜ ((gains : List ℕ) → Gained (now (gain .entry)) gains → tagsOutcome r ≡ skim (binsOf mode gains (now (baps .entry)) slot start (end - start) 0 0) (now (src .entry)) at limit) × (r .tags ≤ 1536) ⌝ }
+    requires { ⌜ (length (now baps) ≡ 1792) × (slot < 7) × (end ≤ 256) × (limit .0 ≤ 8 * length (now src)) ⌝ }
+    ensures { λ r. ⌜ ((gains : List ℕ) → Gained (now (gain .entry)) gains → tagsOutcome r ≡ skim (binsOf mode gains (now (baps .entry)) slot start (end - start) 0 0) (now (src .entry)) (at .0) (limit .0)) × (r .tags ≤ 1536) ⌝ }
 {
     let base = 256 * (slot as usize);
     let mut p = at;
@@ -368,14 +370,15 @@ fn read_bins(
         let hebap = baps[j];
         let a = active(mode, hebap);
         let t = bin(src, p, limit, hebap, gain_at(gain, k, a));
+        let place = t.place;
         if t.number != 0 {
             return Tagged {
                 number: t.number,
-                place: t.place,
+                place: place,
                 tags: 0,
             };
         }
-        p = t.place;
+        p = place;
         tags += t.tags;
         k = counted(k, a);
         i += 1;
@@ -395,11 +398,11 @@ pub fn aht(
     slot: u8,
     start: u16,
     end: u16,
-    at: u16,
-    limit: u16,
+    at: BitPlace,
+    limit: BitPlace,
 ) -> Tagged
-    requires { ⌜ (length (now baps) ≡ 1792) × (slot < 7) × (end ≤ 256) × (limit ≤ 8 * length (now src)) ⌝ }
-    ensures { λ r. ⌜ (tagsOutcome r ≡ skim (ahtOf (now (baps .entry)) slot start (end - start)) (now (src .entry)) at limit) × (r .tags ≤ 1536) ⌝ }
+    requires { ⌜ (length (now baps) ≡ 1792) × (slot < 7) × (end ≤ 256) × (limit .0 ≤ 8 * length (now src)) ⌝ }
+    ensures { λ r. ⌜ (tagsOutcome r ≡ skim (ahtOf (now (baps .entry)) slot start (end - start)) (now (src .entry)) (at .0) (limit .0)) × (r .tags ≤ 1536) ⌝ }
 {
     let Look::Found(mode, first) = raw(src, at, 2, limit) else {
         return Tagged {
@@ -415,13 +418,14 @@ pub fn aht(
         mode,
         active_in(baps, slot, start, end, mode),
     );
+    let place = g.place;
     if g.number != 0 {
         return Tagged {
             number: g.number,
-            place: g.place,
+            place: place,
             tags: 0,
         };
     }
     let gain = g.gain;
-    read_bins(src, baps, slot, start, end, mode, &gain, g.place, limit)
+    read_bins(src, baps, slot, start, end, mode, &gain, place, limit)
 }

@@ -7,7 +7,7 @@ use crate::tally::tallied;
 use crate::tally::turned2;
 use crate::tally::turned3;
 use bits::BitPlace;
-use skim::past;
+use bits::past;
 ghost use mathlib.Core.Path.{_≡_};
 ghost use mathlib.Core.List.{List};
 ghost use Prim.Native.Nat.{ℕ, _+_, _-_, _%_, _<_, _≤_};
@@ -131,28 +131,27 @@ fn one_by_one(
     ensures { λ r. ⌜ ((s : List ℕ) → groupsOutcome r ≡ skim (conventionalOf (now (baps .entry)) slot start (end - start) g) s (at .0) (limit .0)) ⌝ }
 {
     let base = 256 * (slot as usize);
-    let last = limit.0;
-    let mut p = at.0;
+    let mut p = at;
     let mut q = g;
     let mut i = start;
     while i < end {
         let k = base + i as usize;
         let bap = baps[k];
         let w = width(q, bap);
-        if past(p, w, last) {
+        if past(p, w, limit) {
             return Passed {
                 refused: true,
-                place: BitPlace(p),
+                place: p,
                 groups: q,
             };
         }
-        p += w;
+        p = BitPlace(p.0 + w);
         q = counted(q, bap);
         i += 1;
     }
     Passed {
         refused: false,
-        place: BitPlace(p),
+        place: p,
         groups: q,
     }
 }

@@ -1,4 +1,4 @@
--- The mantissas of a block, slot by slot (A/52 clause 5.3.3 and Annex E, TS 102 366 clauses 4.3.3 and E.1.2.4).
+-- The mantissas of a block, slot by slot (A/52 clauses 5.3.3 and E2.2.4, TS 102 366 clauses 4.3.3 and E.1.2.4).
 use mathlib.Core.Bool.{Bool, true, false, _&&_, _||_, not, cond}
 use mathlib.Core.List.{List, [], _∷_}
 use Prim.Native.Nat.{ℕ, zero, suc, _+_, _-_, min}

@@ -25,7 +25,7 @@ ghost use Rattle.skim.specs.Outcomes.{orPast};
 // Where the walk through a block stands: a refusal number, or 0; the place; the tags; the counts of groups.
 pub struct Taking {
     pub number: u8,
-    pub place: u16,
+    pub place: BitPlace,
     pub tags: u16,
     pub groups: Groups,
 }
@@ -46,10 +46,10 @@ fn visit(
     wanted: bool,
     slot: u8,
     t: Taking,
-    limit: u16,
+    limit: BitPlace,
 ) -> Taking
-    requires { ⌜ (Tallies (now memo) (now baps)) × (slot < 7) × (limit ≤ 8 * length (now src)) × (t .tags ≤ 32768) ⌝ }
-    ensures { λ r. ⌜ (takingOutcome r ≡ onward t (visitIf (now (baps .entry)) shape wanted slot) (now (src .entry)) limit) × (r .tags ≤ t .tags + 1536) ⌝ }
+    requires { ⌜ (Tallies (now memo) (now baps)) × (slot < 7) × (limit .0 ≤ 8 * length (now src)) × (t .tags ≤ 32768) ⌝ }
+    ensures { λ r. ⌜ (takingOutcome r ≡ onward t (visitIf (now (baps .entry)) shape wanted slot) (now (src .entry)) (limit .0)) × (r .tags ≤ t .tags + 1536) ⌝ }
 {
     if t.number != 0 {
         return t;
@@ -62,11 +62,13 @@ fn visit(
     }
     let r = range_at(shape, slot);
     let g = t.groups;
+    let at = t.place;
     if hybrid(shape, slot) {
-        let a = aht(src, baps, slot, r.start, r.end, t.place, limit);
+        let a = aht(src, baps, slot, r.start, r.end, at, limit);
+        let place = a.place;
         return Taking {
             number: a.number,
-            place: a.place,
+            place: place,
             tags: t.tags + a.tags,
             groups: g,
         };
@@ -78,8 +80,8 @@ fn visit(
         r.start,
         r.end,
         g,
-        BitPlace(t.place),
-        BitPlace(limit),
+        at,
+        limit,
     );
     passed(p.refused, p.place, p.groups, t.tags)
 }
@@ -90,14 +92,14 @@ fn passed(refused: bool, place: BitPlace, groups: Groups, tags: u16) -> Taking
     if refused {
         return Taking {
             number: 8,
-            place: place.0,
+            place: place,
             tags: tags,
             groups: groups,
         };
     }
     Taking {
         number: 0,
-        place: place.0,
+        place: place,
         tags: tags,
         groups: groups,
     }
@@ -139,11 +141,10 @@ pub fn mantissas(
     requires { ⌜ (Tallies (now memo) (now baps)) × (limit .0 ≤ 8 * length (now src)) ⌝ }
     ensures { λ r. ⌜ taken r ≡ skim (mantissasOf (now (baps .entry)) shape) (now (src .entry)) (at .0) (limit .0) ⌝ }
 {
-    let last = limit.0;
     let n = least(shape.nfchans as u16, 5);
     let mut t = Taking {
         number: 0,
-        place: at.0,
+        place: at,
         tags: 0,
         groups: Groups {
             g1: 0,
@@ -155,16 +156,17 @@ pub fn mantissas(
     let mut ch: u16 = 0;
     while ch < n {
         let slot = ch as u8;
-        t = visit(src, baps, memo, shape, true, slot, t, last);
+        t = visit(src, baps, memo, shape, true, slot, t, limit);
         let c = coupled(shape, slot);
-        t = visit(src, baps, memo, shape, first(c, got), CPL, t, last);
+        t = visit(src, baps, memo, shape, first(c, got), CPL, t, limit);
         got = either(got, c);
         ch += 1;
     }
-    t = visit(src, baps, memo, shape, shape.lfeon, LFE, t, last);
+    t = visit(src, baps, memo, shape, shape.lfeon, LFE, t, limit);
+    let place = t.place;
     Taken {
         number: t.number,
-        place: BitPlace(t.place),
+        place: place,
         tags: t.tags,
     }
 }

@@ -1,5 +1,5 @@
 -- A whole frame: a header that announces its size, a body, and the tail: auxdata and errorcheck
--- (A/52 clauses 5.3.4, 5.3.5, E.1.2.5, E.1.2.6; TS 102 366 clauses 4.3.4, 4.3.5, E.1.2.5, E.1.2.6).
+-- (A/52 clauses 5.3.4, 5.3.5, E2.2.5, E2.2.6; TS 102 366 clauses 4.3.4, 4.3.5, E.1.2.5, E.1.2.6).
 use mathlib.Core.Path.{_≡_}
 use mathlib.Core.Bool.{cond}
 use mathlib.Core.List.{List, []}

@@ -98,11 +98,11 @@ module _ (s : List ℕ) (l w : ℕ) (st : State) (p : ℕ) (x : Look) where
   }
 
   walked-is : Skimmed s l p st x → (q : ℕ) (m : Room) → (b : Bool) → eqb (x .number) 0 ≡ b
-      → skimmed-by (cond b (accepted (x .stored ∷ [])) (refused (x .number))) (x .place) q m
+      → skimmed-by (cond b (accepted (x .stored ∷ [])) (refused (x .number))) (x .place .0) q m
       (λ v e. record-in (fieldOf (partOf (nameIn w) (indexIn w) (st .cells)) p (e - p) 0) q m (λ n m. got (accepted (stored st (placeOf (keepIn w) (st .cells)) (getD v 0 0))) e n m))
       ≡ cond b
-      (record-in (fieldOf (partOf (nameIn w) (indexIn w) (st .cells)) p (x .width) (x .value)) q m (λ n m. got (accepted (stored st (placeOf (keepIn w) (st .cells)) (x .stored))) (x .place) n m))
-      (got (refused (x .number)) (x .place) q m)
+      (record-in (fieldOf (partOf (nameIn w) (indexIn w) (st .cells)) p (x .width) (x .value)) q m (λ n m. got (accepted (stored st (placeOf (keepIn w) (st .cells)) (x .stored))) (x .place .0) n m))
+      (got (refused (x .number)) (x .place .0) q m)
   unfolding skimmed-by
   walked-is h q m true e = rw (h .width (eqb-true _ _ e), h .value) refl
   walked-is h q m false e = refl
@@ -118,7 +118,7 @@ module _ (s : List ℕ) (l w : ℕ) (st : State) (p : ℕ) (x : Look) where
 
 -- recorded and stored
 module _ (w : ℕ) (cells : List ℕ) (p q : ℕ) (m : Room) (x : Look) where
-  pub keeps-missed : ¬ (x .number ≡ 0) → (c : Cursor) → c ≡ haltedAt (x .place) q (x .number) → Keeps w x cells p q m c cells m
+  pub keeps-missed : ¬ (x .number ≡ 0) → (c : Cursor) → c ≡ haltedAt (x .place .0) q (x .number) → Keeps w x cells p q m c cells m
   keeps-missed h c e = record { is = λ b. rw (e, ne-eqb _ _ h) refl }
 
   module _ (h : x .number ≡ 0) (most : ℕ) (fills : Fills most m) where
@@ -126,7 +126,7 @@ module _ (w : ℕ) (cells : List ℕ) (p q : ℕ) (m : Room) (x : Look) where
     keeps-full k c e = record { is = λ b. rw (e, eq-eqb _ _ h, fills .is, le-leb _ _ k) refl }
 
     pub keeps-made : q < most → (name : ℕ) → name ≡ nameIn w → (a : ℕ) → a ≡ cellOf cells BLOCK → (bl : ℤ) → bl ≡ signed 128 a → (z : ℕ) → z ≡ sumOf (indexIn w) cells → (ix : ℤ) → ix ≡ signed 32768 z
-        → (k : ℕ) → k ≡ placeOf (keepIn w) cells → (y : List ℕ) → y ≡ putIn cells k (x .stored) → (c : Cursor) → c ≡ goingAt (x .place) (q + 1)
+        → (k : ℕ) → k ≡ placeOf (keepIn w) cells → (y : List ℕ) → y ≡ putIn cells k (x .stored) → (c : Cursor) → c ≡ goingAt (x .place .0) (q + 1)
         → Keeps w x cells p q m c y (room (set (m .names) q name) (set (m .blocks) q bl) (set (m .indexes) q ix) (set (m .firsts) q p) (set (m .widths) q (x .width)) (set (m .values) q (x .value)))
     unfolding pushed
     keeps-made g name en a ea bl eb z ez ix ei k ek y ey c ec = record { is = λ b. rw (ec, ey, en, eb, ea, ei, ez, ek, eq-eqb _ _ h, fills .is, lt-leb _ _ g) refl }

@@ -33,7 +33,7 @@ pub record Ready (s : List ℕ) (l w most : ℕ) (m : Room) : Type 0 where
 
 -- what a row of input finds: 0 with the place after it, its width, the value that is recorded and the value that is stored; or a refusal and its place
 abbrev pub looked : ℕ → ℕ → ℕ → ℕ → ℕ → Look
-looked n e w v k = record { number = n; place = e; width = w; value = v; stored = k }
+looked n e w v k = record { number = n; place = record { 0 = e }; width = w; value = v; stored = k }
 
 -- bits that are read, and bits that are passed over
 abbrev pub bitsOf : List ℕ → ℕ → ℕ → ℕ → Look
@@ -44,8 +44,8 @@ passedOf l p w = cond (ltb l (p + w)) (looked 8 p 0 0 0) (looked 0 (p + w) w 0 0
 
 -- the mantissas of the block
 pub record Skimmed (s : List ℕ) (l p : ℕ) (st : State) (x : Look) : Type 0 where
-  pub is : skim (mantissasIn st) s p l ≡ out (cond (eqb (x .number) 0) (accepted (x .stored ∷ [])) (refused (x .number))) (x .place) []
-  pub width : x .number ≡ 0 → x .width ≡ x .place - p
+  pub is : skim (mantissasIn st) s p l ≡ out (cond (eqb (x .number) 0) (accepted (x .stored ∷ [])) (refused (x .number))) (x .place .0) []
+  pub width : x .number ≡ 0 → x .width ≡ x .place .0 - p
   pub value : x .value ≡ 0
 
 -- what is done with it: a record is made and a value is stored, or a refusal stands
@@ -53,8 +53,8 @@ abbrev pub recorded : ℕ → Look → State → ℕ → ℕ → Room → Out St
 recorded w x st p q m =
     cond (eqb (x .number) 0)
     (record-in (fieldOf (partOf (nameIn w) (indexIn w) (st .cells)) p (x .width) (x .value)) q m
-    (λ n m. got (accepted (stored st (placeOf (keepIn w) (st .cells)) (x .stored))) (x .place) n m))
-    (got (refused (x .number)) (x .place) q m)
+    (λ n m. got (accepted (stored st (placeOf (keepIn w) (st .cells)) (x .stored))) (x .place .0) n m))
+    (got (refused (x .number)) (x .place .0) q m)
 
 -- this was done: at the place p, with q records in the room, whatever the bins are
 pub record Keeps (w : ℕ) (x : Look) (cells : List ℕ) (p q : ℕ) (m : Room) (c : Cursor) (cells′ : List ℕ) (m′ : Room) : Type 0 where

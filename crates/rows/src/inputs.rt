@@ -1,8 +1,7 @@
 // Input and output: bits are looked at, a record is made, a value is stored.
 ghost use mathlib.Core.Path.{_≡_};
 ghost use mathlib.Core.List.{List};
-ghost use Prim.Native.Nat.{ℕ, _+_, _*_, _%_, _≤_, _<_};
-ghost use lib.Dec.{ltb};
+ghost use Prim.Native.Nat.{ℕ, _*_, _%_, _≤_, _<_};
 ghost use lib.ListN.{length};
 ghost use Rattle.reading.specs.Room.{room};
 ghost use Rattle.syntax.specs.Rooms.{Fills};
@@ -20,6 +19,7 @@ use crate::fields::width_of;
 use allocation::memo::stale;
 use bits::BitPlace;
 use bits::bits_at;
+use bits::past;
 use cells::cell_of;
 use cells::numbers::ABSEXP;
 use cells::numbers::BLOCK;
@@ -36,21 +36,14 @@ use syntax::halted;
 // What a row of input finds: 0 with the place after it, its width, the value that is recorded and the value that is stored; or a refusal and its place.
 pub struct Look {
     pub number: u8,
-    pub place: u16,
+    pub place: BitPlace,
     pub width: u16,
     pub value: u32,
     pub stored: u32,
 }
 
-// Whether so many bits would pass the limit.
-fn past(at: u16, width: u16, limit: u16) -> bool
-    ensures { λ r. ⌜ r ≡ ltb limit (at + width) ⌝ }
-{
-    (limit as u32) < at as u32 + width as u32
-}
-
-fn missed(number: u8, place: u16) -> Look
-    ensures { λ r. ⌜ r ≡ looked number place 0 0 0 ⌝ }
+fn missed(number: u8, place: BitPlace) -> Look
+    ensures { λ r. ⌜ r ≡ looked number (place .0) 0 0 0 ⌝ }
 {
     Look {
         number: number,
@@ -62,9 +55,9 @@ fn missed(number: u8, place: u16) -> Look
 }
 
 // The bits of an element; those of a span; the mantissas of the block.
-fn element(src: &[u8], at: u16, limit: u16, width: u16) -> Look
-    requires { ⌜ (width ≤ 25) × (limit ≤ 8 * length (now src)) ⌝ }
-    ensures { λ r. ⌜ r ≡ bitsOf (now (src .entry)) limit at width ⌝ }
+fn element(src: &[u8], at: BitPlace, limit: BitPlace, width: u16) -> Look
+    requires { ⌜ (width ≤ 25) × (limit .0 ≤ 8 * length (now src)) ⌝ }
+    ensures { λ r. ⌜ r ≡ bitsOf (now (src .entry)) (limit .0) (at .0) width ⌝ }
 {
     if past(at, width, limit) {
         return missed(8, at);
@@ -72,22 +65,22 @@ fn element(src: &[u8], at: u16, limit: u16, width: u16) -> Look
     let value = bits_at(src, at, width);
     Look {
         number: 0,
-        place: at + width,
+        place: BitPlace(at.0 + width),
         width: width,
         value: value,
         stored: value,
     }
 }
 
-fn span(at: u16, limit: u16, width: u16) -> Look
-    ensures { λ r. ⌜ r ≡ passedOf limit at width ⌝ }
+fn span(at: BitPlace, limit: BitPlace, width: u16) -> Look
+    ensures { λ r. ⌜ r ≡ passedOf (limit .0) (at .0) width ⌝ }
 {
     if past(at, width, limit) {
         return missed(8, at);
     }
     Look {
         number: 0,
-        place: at + width,
+        place: BitPlace(at.0 + width),
         width: width,
         value: 0,
         stored: 0,
@@ -99,30 +92,30 @@ fn mantissas(
     cells: &[u16; 1024],
     baps: &[u8; 1792],
     memo: &[u64; 42],
-    at: u16,
-    limit: u16,
+    at: BitPlace,
+    limit: BitPlace,
 ) -> Look
-    requires { ⌜ (Tallies (now memo) (now baps)) × (limit ≤ 8 * length (now src)) ⌝ }
-    ensures { λ r. ⌜ ((exps : List ℕ) → Skimmed (now (src .entry)) limit at (state (now (cells .entry)) (bins exps (now (baps .entry)))) r) ⌝ }
+    requires { ⌜ (Tallies (now memo) (now baps)) × (limit .0 ≤ 8 * length (now src)) ⌝ }
+    ensures { λ r. ⌜ ((exps : List ℕ) → Skimmed (now (src .entry)) (limit .0) (at .0) (state (now (cells .entry)) (bins exps (now (baps .entry)))) r) ⌝ }
 {
-    let t = mantissas_in(src, cells, baps, memo, BitPlace(at), BitPlace(limit));
-    let end = t.place.0;
+    let t = mantissas_in(src, cells, baps, memo, at, limit);
+    let end = t.place;
     if t.number != 0 {
         return missed(t.number, end);
     }
     Look {
         number: 0,
         place: end,
-        width: end - at,
+        width: end.0 - at.0,
         value: 0,
         stored: t.tags as u32,
     }
 }
 
 // What an element or a span finds at a place.
-fn seek(src: &[u8], cells: &[u16; 1024], at: u16, limit: u16, w: u64) -> Look
-    requires { ⌜ (Wide (now src) limit w) × (w % 16 < 4) ⌝ }
-    ensures { λ r. ⌜ Sees (now (src .entry)) limit w (now (cells .entry)) at r ⌝ }
+fn seek(src: &[u8], cells: &[u16; 1024], at: BitPlace, limit: BitPlace, w: u64) -> Look
+    requires { ⌜ (Wide (now src) (limit .0) w) × (w % 16 < 4) ⌝ }
+    ensures { λ r. ⌜ Sees (now (src .entry)) (limit .0) w (now (cells .entry)) (at .0) r ⌝ }
 {
     if w % 16 < 3 {
         return element(src, at, limit, width_of(w));
@@ -143,14 +136,14 @@ fn keep(
     widths: &mut [u16],
     values: &mut [u32],
     cells: &mut [u16; 1024],
-    at: u16,
+    at: BitPlace,
     count: usize,
     most: usize,
     w: u64,
     l: Look,
 ) -> Cursor
     requires { ⌜ Fills most (room (now names) (now blocks) (now indexes) (now firsts) (now widths) (now values)) ⌝ }
-    ensures { λ r. ⌜ Keeps w l (now (cells .entry)) at count (room (now (names .entry)) (now (blocks .entry)) (now (indexes .entry)) (now (firsts .entry)) (now (widths .entry)) (now (values .entry)))
+    ensures { λ r. ⌜ Keeps w l (now (cells .entry)) (at .0) count (room (now (names .entry)) (now (blocks .entry)) (now (indexes .entry)) (now (firsts .entry)) (now (widths .entry)) (now (values .entry)))
         r (now (cells .exit)) (room (now (names .exit)) (now (blocks .exit)) (now (indexes .exit)) (now (firsts .exit)) (now (widths .exit)) (now (values .exit))) ⌝ }
 {
     let number = l.number;
@@ -159,20 +152,20 @@ fn keep(
     let value = l.value;
     let stored = l.stored;
     if number != 0 {
-        return halted(BitPlace(place), count, number);
+        return halted(place, count, number);
     }
     if most <= count {
-        return halted(BitPlace(at), count, 33);
+        return halted(at, count, 33);
     }
     names[count] = name_of(w);
     blocks[count] = block_part(cell_of(cells, BLOCK));
     indexes[count] = index_part(index_of(w, cells));
-    firsts[count] = at;
+    firsts[count] = at.0;
     widths[count] = width;
     values[count] = value;
     let k = keep_of(w, cells);
     put(cells, k, stored);
-    going(BitPlace(place), count + 1)
+    going(place, count + 1)
 }
 
 // What an element or a span reads, once.
@@ -185,14 +178,14 @@ pub fn take(
     widths: &mut [u16],
     values: &mut [u32],
     cells: &mut [u16; 1024],
-    at: u16,
+    at: BitPlace,
     count: usize,
-    limit: u16,
+    limit: BitPlace,
     most: usize,
     w: u64,
 ) -> Cursor
-    requires { ⌜ (Ready (now src) limit w most (room (now names) (now blocks) (now indexes) (now firsts) (now widths) (now values))) × (w % 16 < 4) ⌝ }
-    ensures { λ r. ⌜ Takes (now (src .entry)) limit w (now (cells .entry)) at count (room (now (names .entry)) (now (blocks .entry)) (now (indexes .entry)) (now (firsts .entry)) (now (widths .entry)) (now (values .entry)))
+    requires { ⌜ (Ready (now src) (limit .0) w most (room (now names) (now blocks) (now indexes) (now firsts) (now widths) (now values))) × (w % 16 < 4) ⌝ }
+    ensures { λ r. ⌜ Takes (now (src .entry)) (limit .0) w (now (cells .entry)) (at .0) count (room (now (names .entry)) (now (blocks .entry)) (now (indexes .entry)) (now (firsts .entry)) (now (widths .entry)) (now (values .entry)))
         r (now (cells .exit)) (room (now (names .exit)) (now (blocks .exit)) (now (indexes .exit)) (now (firsts .exit)) (now (widths .exit)) (now (values .exit))) ⌝ }
 {
     let l = seek(src, cells, at, limit, w);
@@ -254,14 +247,14 @@ pub fn gather(
     exps: &mut [u8; 1792],
     baps: &[u8; 1792],
     memo: &mut [u64; 42],
-    at: u16,
+    at: BitPlace,
     count: usize,
-    limit: u16,
+    limit: BitPlace,
     most: usize,
     w: u64,
 ) -> Cursor
-    requires { ⌜ Opens (now src) limit w (now memo) (bins (now exps) (now baps)) most (room (now names) (now blocks) (now indexes) (now firsts) (now widths) (now values)) ⌝ }
-    ensures { λ r. ⌜ Gathers (now (src .entry)) limit w (state (now (cells .entry)) (bins (now (exps .entry)) (now (baps .entry)))) at count (room (now (names .entry)) (now (blocks .entry)) (now (indexes .entry)) (now (firsts .entry)) (now (widths .entry)) (now (values .entry)))
+    requires { ⌜ Opens (now src) (limit .0) w (now memo) (bins (now exps) (now baps)) most (room (now names) (now blocks) (now indexes) (now firsts) (now widths) (now values)) ⌝ }
+    ensures { λ r. ⌜ Gathers (now (src .entry)) (limit .0) w (state (now (cells .entry)) (bins (now (exps .entry)) (now (baps .entry)))) (at .0) count (room (now (names .entry)) (now (blocks .entry)) (now (indexes .entry)) (now (firsts .entry)) (now (widths .entry)) (now (values .entry)))
         r (state (now (cells .exit)) (bins (now (exps .exit)) (now (baps .entry)))) (room (now (names .exit)) (now (blocks .exit)) (now (indexes .exit)) (now (firsts .exit)) (now (widths .exit)) (now (values .exit))) (now (memo .exit)) ⌝ }
 {
     if w % 16 < 8 {

@@ -9,6 +9,7 @@ ghost use Rattle.rows.specs.Syntax.{amountOf, numberOf, countOf, filled}
 ghost use Rattle.rows.specs.Rows.{atIn, maskIn, masked, putAtIn, ofIn, valueIn, filledIn, manyIn, xIn, yIn, relationIn, comparedIn, withIn, compares, stopIn, loopTo, loopIn, rowsIn, toIn, fromIn, counterIn};
 ghost use Rattle.rows.specs.Steps.{Dealt};
 use crate::fields::spot;
+use bits::BitPlace;
 use cells::cell_of;
 use cells::put;
 
@@ -77,12 +78,12 @@ fn linear(w: u64, a: u16) -> u32
 }
 
 // What is put into a cell.
-fn amount(w: u64, at: u16, cells: &[u16; 1024]) -> u32
-    ensures { λ r. ⌜ r ≡ amountOf (valueIn w) at (now (cells .entry)) ⌝ }
+fn amount(w: u64, at: BitPlace, cells: &[u16; 1024]) -> u32
+    ensures { λ r. ⌜ r ≡ amountOf (valueIn w) (at .0) (now (cells .entry)) ⌝ }
 {
     let form = w / 16 % 8;
     if form == 0 {
-        return at as u32;
+        return at.0 as u32;
     }
     let a = source(w, cells);
     if form == 1 {
@@ -102,8 +103,8 @@ fn amount(w: u64, at: u16, cells: &[u16; 1024]) -> u32
 }
 
 // The row of a value.
-fn set(w: u64, at: u16, cells: &mut [u16; 1024])
-    ensures { λ _. ⌜ now (cells .exit) ≡ putIn (now (cells .entry)) (placeOf (putAtIn w) (now (cells .entry))) (amountOf (valueIn w) at (now (cells .entry))) ⌝ }
+fn set(w: u64, at: BitPlace, cells: &mut [u16; 1024])
+    ensures { λ _. ⌜ now (cells .exit) ≡ putIn (now (cells .entry)) (placeOf (putAtIn w) (now (cells .entry))) (amountOf (valueIn w) (at .0) (now (cells .entry))) ⌝ }
 {
     let k = spot(
         (w / 128 % 1024) as usize,
@@ -174,9 +175,9 @@ fn compared(w: u64, cells: &[u16; 1024]) -> bool
 }
 
 // A value, a fill, a refusal or a comparison: 0, or a refusal's number.
-pub fn deal(w: u64, at: u16, cells: &mut [u16; 1024]) -> u8
+pub fn deal(w: u64, at: BitPlace, cells: &mut [u16; 1024]) -> u8
     requires { ⌜ (10 ≤ w % 16) × (w % 16 < 14) × (¬ (w % 16 ≡ 12)) ⌝ }
-    ensures { λ r. ⌜ ((b : Bins) → Dealt w at (state (now (cells .entry)) b) r (state (now (cells .exit)) b)) ⌝ }
+    ensures { λ r. ⌜ ((b : Bins) → Dealt w (at .0) (state (now (cells .entry)) b) r (state (now (cells .exit)) b)) ⌝ }
 {
     let kind = w % 16;
     if kind == 10 {
@@ -200,14 +201,14 @@ pub fn deal(w: u64, at: u16, cells: &mut [u16; 1024]) -> u8
 }
 
 // The place of a refusal: the present one, or that in a cell where it lies ahead.
-pub fn stop_at(w: u64, at: u16, cells: &[u16; 1024]) -> u16
-    ensures { λ r. ⌜ r ≡ at + (cellOf (now (cells .entry)) (stopIn w) - at) ⌝ }
+pub fn stop_at(w: u64, at: BitPlace, cells: &[u16; 1024]) -> BitPlace
+    ensures { λ r. ⌜ r .0 ≡ at .0 + (cellOf (now (cells .entry)) (stopIn w) - at .0) ⌝ }
 {
     if w % 16 != 13 {
         return at;
     }
     let place = cell_of(cells, (w / 268435456 % 1024) as usize);
-    if place < at { at } else { place }
+    if place < at.0 { at } else { BitPlace(place) }
 }
 
 // What a loop counts: from, up to, in which cell; and how many rows it has.

@@ -7,19 +7,12 @@ use native.Mathlib.Omega.{arith}
 use lib.Dec.{leb, ltb, eqb}
 use borrow.Author.Tests.{lt-ltb, le-ltb, ltb-true, ltb-false, le-leb, lt-leb, eq-eqb, ne-eqb}
 use Rattle.bits.specs.Bits.{bitsAt}
+use Rattle.bits.specs.declared.BitPlace.{BitPlace}
 use Rattle.reading.specs.Tree.{Skim, stop, fail, at, take, _>>-_}
 use Rattle.reading.specs.Run.{Result, accepted, refused, Outcome, out, skim}
 use Rattle.skim.specs.Outcomes.{outcome, lookOf}
 use Rattle.skim.specs.declared.Look.{Look}
 use Rattle.skim.specs.declared.Look.the-variants.{Past, Found}
-
--- the test that bits pass the end
-pub past-moved : (p wide end : ℕ) → wide ≤ end → (b : Bool) → ltb (end - wide) p ≡ b → b ≡ ltb end (p + wide)
-past-moved p wide end h true e = let l : end - wide < p = ltb-true (end - wide) p e in sym (lt-ltb end (p + wide) (omega arith))
-past-moved p wide end h false e = let l : p ≤ end - wide = ltb-false (end - wide) p e in sym (le-ltb end (p + wide) (omega arith))
-
-pub past-fits : (b : Bool) (x l : ℕ) → b ≡ ltb l x → l < 65536 → (b ≡ ltb l x) × (b ≡ false → x < 65536)
-past-fits b x l e h = (e, λ f. omega (arith, ltb-false l x (sym e ∙ f)))
 
 module _ {A : Type 0} (s : List ℕ) (p l : ℕ) where
   -- bits that pass the end, and bits that do not
@@ -40,24 +33,24 @@ module _ {A : Type 0} (s : List ℕ) (p l : ℕ) where
   skim-fail n = refl
 
 -- what a look at bits tells
-found-is : (t : Bool) (v q v' q' : ℕ) → cond t Past (Found v q) ≡ Found v' q' → (t ≡ false) × (v ≡ v') × (q ≡ q')
-found-is true v q v' q' e = let z : _≡_ {A = ℕ} 0 1 = cc in absurd (let w : ⊥ = omega arith in w)
-found-is false v q v' q' e = (refl, cc, cc)
+found-is : (t : Bool) (v v' : ℕ) (q q' : BitPlace) → cond t Past (Found v q) ≡ Found v' q' → (t ≡ false) × (v ≡ v') × (q ≡ q')
+found-is true v v' q q' e = let z : _≡_ {A = ℕ} 0 1 = cc in absurd (let w : ⊥ = omega arith in w)
+found-is false v v' q q' e = (refl, cc, cc)
 
-past-is : (t : Bool) (v q : ℕ) → cond t Past (Found v q) ≡ Past → t ≡ true
+past-is : (t : Bool) (v : ℕ) (q : BitPlace) → cond t Past (Found v q) ≡ Past → t ≡ true
 past-is true v q e = refl
 past-is false v q e = let z : _≡_ {A = ℕ} 0 1 = cc in absurd (let w : ⊥ = omega arith in w)
 
 module _ {A : Type 0} (s : List ℕ) (p w l : ℕ) (k : ℕ → Skim A) (r : Look) (e : r ≡ lookOf s p w l) where
   pub look-past : r ≡ Past → skim (take w k) s p l ≡ out (refused 8) p []
   unfolding lookOf
-  look-past f = skim-past s p l w k (past-is (ltb l (p + w)) (bitsAt s p w) (p + w) (sym e ∙ f))
+  look-past f = skim-past s p l w k (past-is (ltb l (p + w)) (bitsAt s p w) (record { 0 = p + w }) (sym e ∙ f))
 
-  pub look-on : (v q : ℕ) → r ≡ Found v q → skim (take w k) s p l ≡ skim (k v) s q l
+  pub look-on : (v : ℕ) (q : BitPlace) → r ≡ Found v q → skim (take w k) s p l ≡ skim (k v) s (q .0) l
   unfolding lookOf
   look-on v q f =
-      let h = found-is (ltb l (p + w)) (bitsAt s p w) (p + w) v q (sym e ∙ f) in
-      skim-on s p l w k (h .0) ∙ rw (h .1, h .2)
+      let h = found-is (ltb l (p + w)) (bitsAt s p w) v (record { 0 = p + w }) q (sym e ∙ f) in
+      skim-on s p l w k (h .0) ∙ rw (h .1, ← h .2)
 
 -- one skim after another: on where the first accepts, and refused where it refuses
 module _ {A B : Type 0} (f : A → Skim B) (s : List ℕ) (l : ℕ) where

@@ -18,4 +18,4 @@ outcome number a place = out (cond (eqb number 0) (accepted a) (refused number))
 
 -- bits at a place, or that they pass the end
 unfoldable pub lookOf : List ℕ → ℕ → ℕ → ℕ → Look
-lookOf s p w l = cond (ltb l (p + w)) Past (Found (bitsAt s p w) (p + w))
+lookOf s p w l = cond (ltb l (p + w)) Past (Found (bitsAt s p w) (record { 0 = p + w }))

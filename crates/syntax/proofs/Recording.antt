@@ -7,10 +7,10 @@ use native.Mathlib.Omega.{arith}
 use lib.Dec.{leb, ltb}
 use lib.IntN.{ℤ}
 use lib.ListN.{length, set}
-use mir.Val.{Fits, SFits, toZ, ofZ}
+use mir.Val.{SFits, toZ, ofZ}
 use mir.Syntax.{w8, w16}
 use mir.Facts.{toZ-ofZ}
-use borrow.Author.Tests.{le-leb, lt-leb, lt-ltb, le-ltb, ltb-true, ltb-false}
+use borrow.Author.Tests.{le-leb, lt-leb, ltb-true, ltb-false}
 use Rattle.bits.specs.Bits.{bitsAt, getOf}
 use Rattle.bits.proofs.BitLaws.{get-in}
 use Rattle.reading.specs.Tree.{Part}
@@ -18,15 +18,6 @@ use Rattle.reading.specs.Run.{Field, fieldOf, skim}
 use Rattle.reading.specs.Room.{Room, room, size, pushed, exec}
 use Rattle.syntax.specs.Records.{part, outcome, seen, goingAt, haltedAt, Recorded, recorded, recordOf, keepOf, readOf, spanOf, rawOf}
 use Rattle.syntax.specs.declared.Cursor.{Cursor}
-
--- a sum tested without making it
-pub moved : (at wide end : ℕ) → wide ≤ end → (b : Bool) → ltb (end - wide) at ≡ b → b ≡ ltb end (at + wide)
-moved at wide end h true e = let l : end - wide < at = ltb-true (end - wide) at e in sym (lt-ltb end (at + wide) (omega arith))
-moved at wide end h false e = let l : at ≤ end - wide = ltb-false (end - wide) at e in sym (le-ltb end (at + wide) (omega arith))
-
--- what does not pass a place fits where the place does
-pub fits16 : (b : Bool) (x l : ℕ) → b ≡ ltb l x → b ≡ false → Fits w16 l → Fits w16 x
-fits16 b x l e f h = omega (arith, h, ltb-false l x (sym e ∙ f))
 
 -- a record's block and index, handed on as the bits of an i8 and an i16
 pub signed : {b i : ℤ} → SFits w8 b → SFits w16 i → (name p w v : ℕ) → fieldOf (part name (toZ w8 (ofZ w8 b)) (toZ w16 (ofZ w16 i))) p w v ≡ fieldOf (part name b i) p w v

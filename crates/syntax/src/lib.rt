@@ -1,10 +1,10 @@
 // The recording cursor: elements, spans, and bits inside a span (syntax.rs). Records go into six lent
 // slices side by side, as many as the shortest of them has room for.
 use bits::BitPlace;
+use bits::past;
 ghost use mathlib.Core.Path.{_≡_};
 ghost use mathlib.Core.List.{List};
 ghost use Prim.Native.Nat.{ℕ, _+_, _-_, _*_, _≤_, min};
-ghost use lib.Dec.{ltb};
 ghost use lib.ListN.{length};
 ghost use Rattle.reading.specs.Run.{fieldOf};
 ghost use Rattle.reading.specs.Room.{room};
@@ -46,16 +46,6 @@ pub fn going(at: BitPlace, count: usize) -> Cursor
         stopped: false,
         number: 0,
     }
-}
-
-// Whether `wide` bits from `at` on pass the end.
-pub fn past(at: BitPlace, wide: u16, end: BitPlace) -> bool
-    ensures { λ r. ⌜ r ≡ ltb (end .0) (at .0 + wide) ⌝ }
-{
-    if end.0 < wide {
-        return true;
-    }
-    end.0 - wide < at.0
 }
 
 fn lesser(a: usize, b: usize) -> usize

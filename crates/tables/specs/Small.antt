@@ -22,7 +22,7 @@ unfoldable pub gaqBits : List ℕ
 gaqBits =
     3 ∷ 4 ∷ 5 ∷ 6 ∷ 7 ∷ 8 ∷ 9 ∷ 10 ∷ 11 ∷ 12 ∷ 14 ∷ 16 ∷ []
 
--- Table E.1.9, the strategies of the blocks 0 to 5, six for each code, one after the other (0 reuse, 1 D15, 2 D25, 3 D45)
+-- TS 102 366 Table E.1.9, A/52 Table E2.14: the strategies of the blocks 0 to 5, six for each code, one after the other (0 reuse, 1 D15, 2 D25, 3 D45)
 unfoldable pub frmexpstr : List ℕ
 frmexpstr =
     1 ∷ 0 ∷ 0 ∷ 0 ∷ 0 ∷ 0 ∷
@@ -58,13 +58,13 @@ frmexpstr =
     3 ∷ 3 ∷ 3 ∷ 3 ∷ 2 ∷ 0 ∷
     3 ∷ 3 ∷ 3 ∷ 3 ∷ 3 ∷ 3 ∷ []
 
--- Table E.1.12, the default banding of coupling, by sub-band
+-- TS 102 366 Table E.1.12, A/52 Table E2.16: the default banding of coupling, by sub-band
 unfoldable pub defcplbndstrc : List ℕ
 defcplbndstrc =
     0 ∷ 0 ∷ 0 ∷ 0 ∷ 0 ∷ 0 ∷ 0 ∷ 0 ∷ 1 ∷ 0 ∷ 1 ∷ 1 ∷ 0 ∷ 1 ∷ 1 ∷ 1 ∷
     1 ∷ 1 ∷ []
 
--- Table E.1.10, the default banding of spectral extension, by sub-band
+-- TS 102 366 Table E.1.10, A/52 Table E2.15: the default banding of spectral extension, by sub-band
 unfoldable pub defspxbndstrc : List ℕ
 defspxbndstrc =
     0 ∷ 0 ∷ 0 ∷ 0 ∷ 0 ∷ 0 ∷ 0 ∷ 0 ∷ 1 ∷ 0 ∷ 1 ∷ 0 ∷ 1 ∷ 0 ∷ 1 ∷ 0 ∷

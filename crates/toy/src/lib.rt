@@ -7,6 +7,7 @@ ghost use Prim.Native.Nat.{_≤_, _*_};
 ghost use lib.ListN.{length};
 ghost use Rattle.toy.specs.Answer.{answer, limitOf, parsed};
 ghost use Rattle.toy.specs.Table.{Tabled};
+use bits::BitPlace;
 use syntax::Cursor;
 use syntax::least;
 use table::TABLE;
@@ -18,14 +19,14 @@ fn rows() -> [u64; 81]
     TABLE
 }
 
-fn limit_of(src: &[u8]) -> u16
-    ensures { λ r. ⌜ (r ≡ limitOf (now (src .entry))) × (r ≤ 8 * length (now (src .entry))) ⌝ }
+fn limit_of(src: &[u8]) -> BitPlace
+    ensures { λ r. ⌜ (r .0 ≡ limitOf (now (src .entry))) × (r .0 ≤ 8 * length (now (src .entry))) ⌝ }
 {
     let n = src.len();
     if n < 4096 {
-        return 8 * n as u16;
+        return BitPlace(8 * n as u16);
     }
-    32768
+    BitPlace(32768)
 }
 
 // The frame in the slice, of at most 4,096 bytes: the answer and the records are those of the syntax's
@@ -69,7 +70,7 @@ pub fn parse(
         &mut exps,
         &mut baps,
         &mut memo,
-        0,
+        BitPlace(0),
         0,
         limit,
         most,

@@ -36,9 +36,9 @@ pub fn each(
     exps: &mut [u8; 1792],
     baps: &mut [u8; 1792],
     memo: &mut [u64; 42],
-    start: u16,
+    start: BitPlace,
     had: usize,
-    limit: u16,
+    limit: BitPlace,
     most: usize,
     from: usize,
     to: usize,
@@ -46,8 +46,8 @@ pub fn each(
     n: u32,
     counter: usize,
 ) -> Cursor
-    requires { ⌜ Stand (now src) limit (now table) (bins (now exps) (now baps)) (now memo) most (room (now names) (now blocks) (now indexes) (now firsts) (now widths) (now values)) from to ⌝ }
-    ensures { λ r. ⌜ Turned (now (src .entry)) limit (now (table .entry)) from to i n counter start had (state (now (cells .entry)) (bins (now (exps .entry)) (now (baps .entry)))) (room (now (names .entry)) (now (blocks .entry)) (now (indexes .entry)) (now (firsts .entry)) (now (widths .entry)) (now (values .entry)))
+    requires { ⌜ Stand (now src) (limit .0) (now table) (bins (now exps) (now baps)) (now memo) most (room (now names) (now blocks) (now indexes) (now firsts) (now widths) (now values)) from to ⌝ }
+    ensures { λ r. ⌜ Turned (now (src .entry)) (limit .0) (now (table .entry)) from to i n counter (start .0) had (state (now (cells .entry)) (bins (now (exps .entry)) (now (baps .entry)))) (room (now (names .entry)) (now (blocks .entry)) (now (indexes .entry)) (now (firsts .entry)) (now (widths .entry)) (now (values .entry)))
         r (state (now (cells .exit)) (bins (now (exps .exit)) (now (baps .exit)))) (room (now (names .exit)) (now (blocks .exit)) (now (indexes .exit)) (now (firsts .exit)) (now (widths .exit)) (now (values .exit))) (now (memo .exit)) ⌝ }
 {
     let mut at = start;
@@ -93,7 +93,7 @@ pub fn each(
                     if c.stopped {
                         return c;
                     }
-                    at = c.at.0;
+                    at = c.at;
                     count = c.count;
                     left = more - 1;
                     pc = onward(left, pc);
@@ -121,19 +121,19 @@ pub fn each(
                 if c.stopped {
                     return c;
                 }
-                at = c.at.0;
+                at = c.at;
                 count = c.count;
                 pc += 1;
             } else if kind == 12 {
                 let number = derive((w / 32 % 256) as u8, cells, exps, baps, memo);
                 if number != 0 {
-                    return halted(BitPlace(at), count, number);
+                    return halted(at, count, number);
                 }
                 pc += 1;
             } else if kind < 14 {
                 let number = deal(w, at, cells);
                 if number != 0 {
-                    return halted(BitPlace(stop_at(w, at, cells)), count, number);
+                    return halted(stop_at(w, at, cells), count, number);
                 }
                 pc += 1;
             } else {
@@ -165,12 +165,12 @@ pub fn each(
                 if c.stopped {
                     return c;
                 }
-                at = c.at.0;
+                at = c.at;
                 count = c.count;
                 pc = end;
             }
         }
         j += 1;
     }
-    going(BitPlace(at), count)
+    going(at, count)
 }

@@ -41,6 +41,5 @@ returns c = whole-answer _ _ (c .before .before .before .before .before .before 
 
 pub synced-spec : {M : Type 1} → statement M
 synced-spec =
-    tie.close (tie.spec (λ c κs. search needs)
-    (λ c κs. search needs) (λ c. search needs) each-requires framed-requires (λ c κs. search needs) same-length
-    same-length-2 same-length-3 same-length-4 same-length-5 same-length-6 returns)
+    tie.close (tie.spec (λ c κs. search needs) (λ c κs. search needs) (λ c. search needs) each-requires framed-requires
+    (λ c κs. search needs) same-length same-length-2 same-length-3 same-length-4 same-length-5 same-length-6 returns)

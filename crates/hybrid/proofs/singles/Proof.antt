@@ -6,10 +6,10 @@ use Rattle.hybrid.proofs.singles.Statement.{statement}
 use Rattle.hybrid.proofs.singles.Tie as tie
 
 abbrev Inv-loop : tie.InvT-loop
-Inv-loop src at limit large n gain₀ p₀ i₀ gain p i = Singled src at limit large n gain p i
+Inv-loop src limit large n gain₀ p₀ i₀ gain p i = Singled src (p₀ .0) (limit .0) large n gain (p .0) i
 
 abbrev μ-loop : tie.MeasureT-loop
-μ-loop src at limit large n gain₀ p₀ i₀ gain p i = n - i
+μ-loop src limit large n gain₀ p₀ i₀ gain p i = n - i
 
 loop-holds : tie.Need-loop-holds Inv-loop μ-loop
 loop-holds c = singled-none _ _ _ _ _

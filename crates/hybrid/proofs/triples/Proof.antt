@@ -6,10 +6,10 @@ use Rattle.hybrid.proofs.triples.Statement.{statement}
 use Rattle.hybrid.proofs.triples.Tie as tie
 
 abbrev Inv-loop : tie.InvT-loop
-Inv-loop src at limit n gain₀ p₀ i₀ gain p i = Tripled src at limit n gain p i
+Inv-loop src limit n gain₀ p₀ i₀ gain p i = Tripled src (p₀ .0) (limit .0) n gain (p .0) i
 
 abbrev μ-loop : tie.MeasureT-loop
-μ-loop src at limit n gain₀ p₀ i₀ gain p i = n - i
+μ-loop src limit n gain₀ p₀ i₀ gain p i = n - i
 
 loop-holds : tie.Need-loop-holds Inv-loop μ-loop
 loop-holds c = tripled-none _ _ _ _

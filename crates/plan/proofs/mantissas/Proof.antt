@@ -10,10 +10,10 @@ use Rattle.plan.proofs.mantissas.Statement.{statement}
 use Rattle.plan.proofs.mantissas.Tie as tie
 
 abbrev Inv-loop : tie.InvT-loop
-Inv-loop src baps memo shape last n t₀ got₀ ch₀ t got ch = (ch ≤ n) × (t .tags ≤ 3072 * ch) × (onward t₀ (slotsOf baps shape 0 n false) src last ≡ onward t (slotsOf baps shape ch (n - ch) got) src last)
+Inv-loop src baps memo shape limit n t₀ got₀ ch₀ t got ch = (ch ≤ n) × (t .tags ≤ 3072 * ch) × (onward t₀ (slotsOf baps shape 0 n false) src (limit .0) ≡ onward t (slotsOf baps shape ch (n - ch) got) src (limit .0))
 
 abbrev μ-loop : tie.MeasureT-loop
-μ-loop src baps memo shape last n t₀ got₀ ch₀ t got ch = n - ch
+μ-loop src baps memo shape limit n t₀ got₀ ch₀ t got ch = n - ch
 
 loop-holds : tie.Need-loop-holds Inv-loop μ-loop
 loop-holds c = (omega arith, omega arith, let e : c .least .result - 0 ≡ c .least .result = omega arith in rw e)
@@ -37,10 +37,10 @@ visit-requires-3 : tie.Need-visit-requires-3 Inv-loop μ-loop
 visit-requires-3 c κs = (c .before .before .before .before .before .pre .0, omega arith, c .before .before .before .before .before .pre .1, omega (arith, c .before .before .least .ensures))
 
 returns : tie.Need-returns Inv-loop μ-loop
-returns c = slots-end _ _ _ _ _ _ _ _ (c .before .loop-test .left) (c .visit3 .result) (c .visit3 .ensures .0) ∙ sym (c .before .before .loop .inv .2) ∙ slots-all _ _ _ _ _ _ (c .before .before .before .least .ensures)
+returns c = slots-end _ _ _ _ _ _ _ _ (c .before .before .loop-test .left) (c .before .visit3 .result) (c .before .visit3 .ensures .0) ∙ sym (c .before .before .before .loop .inv .2) ∙ slots-all _ _ _ _ _ _ (c .before .before .before .before .least .ensures)
 
 pub mantissas-spec : {M : Type 1} → statement M
 mantissas-spec =
-    tie.close (tie.spec Inv-loop μ-loop (λ c. search needs) (λ c κs. search needs) loop-holds
-    cast-slot visit-requires coupled-requires (λ c κs. search needs) visit-requires-2 (λ c κs. search needs)
-    (λ c. search needs) (λ c. search needs) loop-again visit-requires-3 returns)
+    tie.close (tie.spec Inv-loop μ-loop (λ c. search needs) (λ c κs. search needs) loop-holds cast-slot visit-requires
+    coupled-requires (λ c κs. search needs) visit-requires-2 (λ c κs. search needs) (λ c. search needs)
+    (λ c. search needs) loop-again visit-requires-3 returns)

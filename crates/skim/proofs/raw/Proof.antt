@@ -11,12 +11,12 @@ returns : tie.Need-returns
 unfolding lookOf
 returns c = rw (sym (c .before .past .ensures .0) ∙ c .if1 .taken)
 
-add-t8 : tie.Need-add-t8
-add-t8 c = record { fits = c .before .before .past .ensures .1 (c .before .if1 .left) }
+add-t7 : tie.Need-add-t7
+add-t7 c = record { fits = c .before .before .before .past .ensures .1 (c .before .before .if1 .left) }
 
 returns-2 : tie.Need-returns-2
 unfolding lookOf
-returns-2 c = let h = sym (c .before .before .past .ensures .0) ∙ c .before .if1 .left in let a = c .before .before .before .before .args in let k = ltb-false (a .limit) _ h in rw (h, c .get .ensures, get-in (a .src .now) (a .at) (a .width) (omega arith) (omega arith))
+returns-2 c = let h = sym (c .before .before .before .past .ensures .0) ∙ c .before .before .if1 .left in let a = c .before .before .before .before .before .args in let k = ltb-false (a .limit .0) _ h in rw (h, c .before .get .ensures, get-in (a .src .now) (a .at .0) (a .width) (omega arith) (omega arith))
 
 pub raw-spec : {M : Type 1} → statement M
-raw-spec = tie.close (tie.spec (λ c κs. search needs) returns (λ c κs. search needs) add-t8 returns-2)
+raw-spec = tie.close (tie.spec (λ c κs. search needs) returns (λ c κs. search needs) add-t7 returns-2)

@@ -42,19 +42,19 @@ abbrev each-below : ℕ → In 12 each-kinds.ps
 each-below t = and 12 each-kinds.ps (falls 12 each-kinds.ps _<_ μ-each t) each.Pre
 
 abbrev each-Inv-loop2 : each-lts.InvT-loop2
-each-Inv-loop2 table src names₀ blocks₀ indexes₀ firsts₀ widths₀ values₀ cells₀ exps₀ baps₀ memo₀ start had limit most from to i n counter at₀ count₀ j pc₀ left₀ last₀ names blocks indexes firsts widths values cells exps baps memo at count pc left last =
-    RowsInv src limit table from to at₀ count₀ (state cells₀ (bins exps₀ baps₀)) (room names₀ blocks₀ indexes₀ firsts₀ widths₀ values₀) at count (state cells (bins exps baps)) (room names blocks indexes firsts widths values) memo pc left last
+each-Inv-loop2 table src names₀ blocks₀ indexes₀ firsts₀ widths₀ values₀ cells₀ exps₀ baps₀ memo₀ had limit most from to i n counter at₀ count₀ j pc₀ left₀ last₀ names blocks indexes firsts widths values cells exps baps memo at count pc left last =
+    RowsInv src (limit .0) table from to (at₀ .0) count₀ (state cells₀ (bins exps₀ baps₀)) (room names₀ blocks₀ indexes₀ firsts₀ widths₀ values₀) (at .0) count (state cells (bins exps baps)) (room names blocks indexes firsts widths values) memo pc left last
 
 abbrev each-μ-loop2 : each-lts.MeasureT-loop2
-each-μ-loop2 table src names₀ blocks₀ indexes₀ firsts₀ widths₀ values₀ cells₀ exps₀ baps₀ memo₀ start had limit most from to i n counter at₀ count₀ j pc₀ left₀ last₀ names blocks indexes firsts widths values cells exps baps memo at count pc left last =
+each-μ-loop2 table src names₀ blocks₀ indexes₀ firsts₀ widths₀ values₀ cells₀ exps₀ baps₀ memo₀ had limit most from to i n counter at₀ count₀ j pc₀ left₀ last₀ names blocks indexes firsts widths values cells exps baps memo at count pc left last =
     weigh to pc left
 
 abbrev each-Inv-loop : each-lts.InvT-loop
-each-Inv-loop table src names₀ blocks₀ indexes₀ firsts₀ widths₀ values₀ cells₀ exps₀ baps₀ memo₀ start had limit most from to i n counter at₀ count₀ j₀ names blocks indexes firsts widths values cells exps baps memo at count j =
-    EachInv src limit table from to i n counter start had (state cells₀ (bins exps₀ baps₀)) (room names₀ blocks₀ indexes₀ firsts₀ widths₀ values₀) at count (state cells (bins exps baps)) (room names blocks indexes firsts widths values) memo j
+each-Inv-loop table src names₀ blocks₀ indexes₀ firsts₀ widths₀ values₀ cells₀ exps₀ baps₀ memo₀ had limit most from to i n counter at₀ count₀ j₀ names blocks indexes firsts widths values cells exps baps memo at count j =
+    EachInv src (limit .0) table from to i n counter (at₀ .0) had (state cells₀ (bins exps₀ baps₀)) (room names₀ blocks₀ indexes₀ firsts₀ widths₀ values₀) (at .0) count (state cells (bins exps baps)) (room names blocks indexes firsts widths values) memo j
 
 abbrev each-μ-loop : each-lts.MeasureT-loop
-each-μ-loop table src names₀ blocks₀ indexes₀ firsts₀ widths₀ values₀ cells₀ exps₀ baps₀ memo₀ start had limit most from to i n counter at₀ count₀ j₀ names blocks indexes firsts widths values cells exps baps memo at count j =
+each-μ-loop table src names₀ blocks₀ indexes₀ firsts₀ widths₀ values₀ cells₀ exps₀ baps₀ memo₀ had limit most from to i n counter at₀ count₀ j₀ names blocks indexes firsts widths values cells exps baps memo at count j =
     n - j
 
 abbrev each-claims : ℕ → each-lts.Claims
@@ -130,16 +130,16 @@ each-returns : (t : ℕ) → each-lts.Need-returns (each-claims t) (each-at t) e
 each-returns t c = turns-off _ _ _ _ _ _ _ _ _ _ _ _ _ _ _ _ _ _ (c .before .before .before .before .before .before .before .before .before .before .before .before .before .before .before .before .before .before .before .before .before .before .before .before .before .before .before .before .before .before .before .before .before .loop .inv) (c .before .before .before .before .before .before .before .before .before .before .before .before .before .before .before .before .before .before .before .before .before .before .before .before .before .before .before .before .before .before .before .before .loop-test .taken) _ (c .before .before .before .before .before .before .before .before .before .before .before .before .before .before .before .before .before .before .before .before .before .before .before .before .before .before .before .before .before .before .put .ensures) (c .before .before .before .before .before .before .before .before .before .before .before .take .result) _ _ _ (c .if5 .taken) (c .before .before .before .before .before .before .before .before .before .before .before .before .before .before .before .before .before .before .before .before .before .before .before .before .before .before .before .before .before .loop2 .inv .right) (one-off _ _ _ _ _ _ _ _ _ _ _ _ _ _ _ _ _ (c .before .before .before .before .before .before .before .before .before .before .before .before .before .before .before .before .before .before .before .before .before .before .before .before .before .before .before .before .before .loop2 .inv) (c .before .before .before .before .before .before .before .before .before .before .before .before .before .before .before .before .before .before .before .before .before .before .before .before .before .before .before .before .loop2-test .taken) _ refl (c .before .before .before .before .before .before .before .before .before .before .before .before .before .before .before .before .before .before .before .before .before .before .before .before .before .if3 .taken) _ _ (c .before .before .before .before .before .before .before .before .before .before .before .before .before .before .before .before .before .before .before .before .before .before .before .last-of .ensures) (c .before .before .before .before .before .before .before .before .before .before .before .before .before .before .before .before .before .before .before .before .before .before .more-of .ensures) (c .before .before .before .before .before .before .before .before .before .before .before .before .before .before .before .before .before .before .before .before .before .if4 .left) _ (c .before .before .before .before .before .before .before .before .before .before .before .before .before .before .before .before .before .before .before .mark .ensures) (c .before .before .before .before .before .before .before .before .before .before .before .take .result) _ _ (c .before .before .before .before .before .before .before .before .before .before .before .take .ensures) (c .if5 .taken))
 
 each-sub-left : (t : ℕ) → each-lts.Need-sub-left (each-claims t) (each-at t) each.Post each-Inv-loop2 each-μ-loop2 each-Inv-loop each-μ-loop
-each-sub-left t c = omega (arith, c .before .before .before .before .before .before .before .before .before .before .before .before .before .before .before .before .before .before .before .before .before .if4 .left)
+each-sub-left t c = omega (arith, c .before .before .before .before .before .before .before .before .before .before .before .before .before .before .before .before .before .before .before .before .before .before .if4 .left)
 
 each-onward-requires : (t : ℕ) → each-lts.Need-onward-requires (each-claims t) (each-at t) each.Post each-Inv-loop2 each-μ-loop2 each-Inv-loop each-μ-loop
-each-onward-requires t c κs = omega (arith, stand-end (c .before .before .before .before .before .before .before .before .before .before .before .before .before .before .before .before .before .before .before .before .before .before .before .before .before .before .before .before .before .before .before .before .before .before .before .before .before .before .before .before .pre .1), c .before .before .before .before .before .before .before .before .before .before .before .before .before .before .before .before .before .before .before .before .before .before .before .before .before .before .before .before .loop2-test .taken)
+each-onward-requires t c κs = omega (arith, stand-end (c .before .before .before .before .before .before .before .before .before .before .before .before .before .before .before .before .before .before .before .before .before .before .before .before .before .before .before .before .before .before .before .before .before .before .before .before .before .before .before .before .before .pre .1), c .before .before .before .before .before .before .before .before .before .before .before .before .before .before .before .before .before .before .before .before .before .before .before .before .before .before .before .before .before .loop2-test .taken)
 
 each-loop2-less-4 : (t : ℕ) → each-lts.Need-loop2-less-4 (each-claims t) (each-at t) each.Post each-Inv-loop2 each-μ-loop2 each-Inv-loop each-μ-loop
-each-loop2-less-4 t c = weigh-more _ _ _ (c .before .before .before .before .before .before .before .before .before .before .before .before .before .before .before .before .before .before .before .before .before .before .before .more-of .result) _ _ _ (c .before .before .before .before .before .before .before .before .before .before .before .before .before .before .before .before .before .before .before .before .before .before .before .before .before .before .before .before .before .loop2-test .taken) (c .before .before .before .before .before .before .before .before .before .before .before .before .before .before .before .before .before .before .before .before .before .before .if4 .left) (c .before .before .before .before .before .before .before .before .before .before .before .before .before .before .before .before .before .before .before .before .before .before .before .more-of .ensures) refl (c .onward .ensures) (omega arith)
+each-loop2-less-4 t c = weigh-more _ _ _ (c .before .before .before .before .before .before .before .before .before .before .before .before .before .before .before .before .before .before .before .before .before .before .before .before .more-of .result) _ _ _ (c .before .before .before .before .before .before .before .before .before .before .before .before .before .before .before .before .before .before .before .before .before .before .before .before .before .before .before .before .before .before .loop2-test .taken) (c .before .before .before .before .before .before .before .before .before .before .before .before .before .before .before .before .before .before .before .before .before .before .before .if4 .left) (c .before .before .before .before .before .before .before .before .before .before .before .before .before .before .before .before .before .before .before .before .before .before .before .before .more-of .ensures) refl (c .onward .ensures) (omega arith)
 
 each-loop2-again-4 : (t : ℕ) → each-lts.Need-loop2-again-4 (each-claims t) (each-at t) each.Post each-Inv-loop2 each-μ-loop2 each-Inv-loop each-μ-loop
-each-loop2-again-4 t c = rows-one _ _ _ _ _ _ _ _ _ _ _ _ _ _ _ _ _ (c .before .before .before .before .before .before .before .before .before .before .before .before .before .before .before .before .before .before .before .before .before .before .before .before .before .before .before .before .before .before .loop2 .inv) (c .before .before .before .before .before .before .before .before .before .before .before .before .before .before .before .before .before .before .before .before .before .before .before .before .before .before .before .before .before .loop2-test .taken) _ refl (c .before .before .before .before .before .before .before .before .before .before .before .before .before .before .before .before .before .before .before .before .before .before .before .before .before .before .if3 .taken) _ _ (c .before .before .before .before .before .before .before .before .before .before .before .before .before .before .before .before .before .before .before .before .before .before .before .before .last-of .ensures) (c .before .before .before .before .before .before .before .before .before .before .before .before .before .before .before .before .before .before .before .before .before .before .before .more-of .ensures) (c .before .before .before .before .before .before .before .before .before .before .before .before .before .before .before .before .before .before .before .before .before .before .if4 .left) _ (c .before .before .before .before .before .before .before .before .before .before .before .before .before .before .before .before .before .before .before .before .mark .ensures) (c .before .before .before .before .before .before .before .before .before .before .before .before .take .result) _ _ (c .before .before .before .before .before .before .before .before .before .before .before .before .take .ensures) (c .before .if5 .left) (record { names = c .before .before .before .before .before .before .before .before .before .before .before .before .take .kept .1 .0; blocks = c .before .before .before .before .before .before .before .before .before .before .before .before .take .kept .1 .1 .0; indexes = c .before .before .before .before .before .before .before .before .before .before .before .before .take .kept .1 .1 .1 .0; firsts = c .before .before .before .before .before .before .before .before .before .before .before .before .take .kept .1 .1 .1 .1 .0; widths = c .before .before .before .before .before .before .before .before .before .before .before .before .take .kept .1 .1 .1 .1 .1 .0; values = c .before .before .before .before .before .before .before .before .before .before .before .before .take .kept .1 .1 .1 .1 .1 .1 .0 }) _ refl _ (c .onward .ensures)
+each-loop2-again-4 t c = rows-one _ _ _ _ _ _ _ _ _ _ _ _ _ _ _ _ _ (c .before .before .before .before .before .before .before .before .before .before .before .before .before .before .before .before .before .before .before .before .before .before .before .before .before .before .before .before .before .before .before .loop2 .inv) (c .before .before .before .before .before .before .before .before .before .before .before .before .before .before .before .before .before .before .before .before .before .before .before .before .before .before .before .before .before .before .loop2-test .taken) _ refl (c .before .before .before .before .before .before .before .before .before .before .before .before .before .before .before .before .before .before .before .before .before .before .before .before .before .before .before .if3 .taken) _ _ (c .before .before .before .before .before .before .before .before .before .before .before .before .before .before .before .before .before .before .before .before .before .before .before .before .before .last-of .ensures) (c .before .before .before .before .before .before .before .before .before .before .before .before .before .before .before .before .before .before .before .before .before .before .before .before .more-of .ensures) (c .before .before .before .before .before .before .before .before .before .before .before .before .before .before .before .before .before .before .before .before .before .before .before .if4 .left) _ (c .before .before .before .before .before .before .before .before .before .before .before .before .before .before .before .before .before .before .before .before .before .mark .ensures) (c .before .before .before .before .before .before .before .before .before .before .before .before .before .take .result) _ _ (c .before .before .before .before .before .before .before .before .before .before .before .before .before .take .ensures) (c .before .before .if5 .left) (record { names = c .before .before .before .before .before .before .before .before .before .before .before .before .before .take .kept .1 .0; blocks = c .before .before .before .before .before .before .before .before .before .before .before .before .before .take .kept .1 .1 .0; indexes = c .before .before .before .before .before .before .before .before .before .before .before .before .before .take .kept .1 .1 .1 .0; firsts = c .before .before .before .before .before .before .before .before .before .before .before .before .before .take .kept .1 .1 .1 .1 .0; widths = c .before .before .before .before .before .before .before .before .before .before .before .before .before .take .kept .1 .1 .1 .1 .1 .0; values = c .before .before .before .before .before .before .before .before .before .before .before .before .before .take .kept .1 .1 .1 .1 .1 .1 .0 }) _ refl _ (c .onward .ensures)
 
 each-gather-requires : (t : ℕ) → each-lts.Need-gather-requires (each-claims t) (each-at t) each.Post each-Inv-loop2 each-μ-loop2 each-Inv-loop each-μ-loop
 each-gather-requires t c κs = stand-opens (c .before .before .before .before .before .before .before .before .before .before .before .before .before .before .before .before .before .before .before .before .before .before .before .before .before .before .pre .1) _ (same-trans (c .before .before .before .before .before .before .before .before .before .before .before .before .before .before .before .before .before .before .before .loop .inv .same) (c .before .before .before .before .before .before .before .before .before .before .before .before .before .before .before .loop2 .inv .same)) _ _ (c .before .before .before .before .before .before .before .before .before .before .before .before .before .before .before .loop2 .inv .right) _ (c .before .before .before .before .before .before .before .before .before .before .before .if3 .left)
@@ -166,13 +166,13 @@ each-returns-2 : (t : ℕ) → each-lts.Need-returns-2 (each-claims t) (each-at 
 each-returns-2 t c = turns-off _ _ _ _ _ _ _ _ _ _ _ _ _ _ _ _ _ _ (c .before .before .before .before .before .before .before .before .before .before .before .before .before .before .before .before .before .before .before .before .before .before .before .before .before .before .before .before .before .before .before .loop .inv) (c .before .before .before .before .before .before .before .before .before .before .before .before .before .before .before .before .before .before .before .before .before .before .before .before .before .before .before .before .before .before .loop-test .taken) _ (c .before .before .before .before .before .before .before .before .before .before .before .before .before .before .before .before .before .before .before .before .before .before .before .before .before .before .before .before .put .ensures) (c .before .before .before .before .before .before .before .before .before .before .before .gather .result) _ _ _ (c .if7 .taken) (c .before .before .before .before .before .before .before .before .before .before .before .gather .ensures .right) (gather-off _ _ _ _ _ _ _ _ _ _ _ _ _ _ _ _ _ (c .before .before .before .before .before .before .before .before .before .before .before .before .before .before .before .before .before .before .before .before .before .before .before .before .before .before .before .loop2 .inv) (c .before .before .before .before .before .before .before .before .before .before .before .before .before .before .before .before .before .before .before .before .before .before .before .before .before .before .loop2-test .taken) _ refl (c .before .before .before .before .before .before .before .before .before .before .before .before .before .before .before .before .before .before .before .before .before .before .before .if3 .left) (c .before .before .before .before .before .before .before .before .before .before .before .before .before .before .before .before .before .before .before .before .before .before .if6 .taken) (c .before .before .before .before .before .before .before .before .before .before .before .gather .result) _ _ _ (c .before .before .before .before .before .before .before .before .before .before .before .gather .ensures) (c .if7 .taken))
 
 each-add-pc-5 : (t : ℕ) → each-lts.Need-add-pc-5 (each-claims t) (each-at t) each.Post each-Inv-loop2 each-μ-loop2 each-Inv-loop each-μ-loop
-each-add-pc-5 t c = omega (arith, stand-end (c .before .before .before .before .before .before .before .before .before .before .before .before .before .before .before .before .before .before .before .before .before .before .before .before .before .before .before .before .before .before .before .before .before .before .before .before .before .before .pre .1), c .before .before .before .before .before .before .before .before .before .before .before .before .before .before .before .before .before .before .before .before .before .before .before .before .before .before .loop2-test .taken)
+each-add-pc-5 t c = omega (arith, stand-end (c .before .before .before .before .before .before .before .before .before .before .before .before .before .before .before .before .before .before .before .before .before .before .before .before .before .before .before .before .before .before .before .before .before .before .before .before .before .before .before .pre .1), c .before .before .before .before .before .before .before .before .before .before .before .before .before .before .before .before .before .before .before .before .before .before .before .before .before .before .before .loop2-test .taken)
 
 each-loop2-less-5 : (t : ℕ) → each-lts.Need-loop2-less-5 (each-claims t) (each-at t) each.Post each-Inv-loop2 each-μ-loop2 each-Inv-loop each-μ-loop
-each-loop2-less-5 t c = weigh-next _ _ _ (c .before .before .before .before .before .before .before .before .before .before .before .before .before .before .before .before .before .before .before .before .before .before .before .before .before .before .loop2-test .taken)
+each-loop2-less-5 t c = weigh-next _ _ _ (c .before .before .before .before .before .before .before .before .before .before .before .before .before .before .before .before .before .before .before .before .before .before .before .before .before .before .before .loop2-test .taken)
 
 each-loop2-again-5 : (t : ℕ) → each-lts.Need-loop2-again-5 (each-claims t) (each-at t) each.Post each-Inv-loop2 each-μ-loop2 each-Inv-loop each-μ-loop
-each-loop2-again-5 t c = rows-gather _ _ _ _ _ _ _ _ _ _ _ _ _ _ _ _ _ (c .before .before .before .before .before .before .before .before .before .before .before .before .before .before .before .before .before .before .before .before .before .before .before .before .before .before .before .loop2 .inv) (c .before .before .before .before .before .before .before .before .before .before .before .before .before .before .before .before .before .before .before .before .before .before .before .before .before .before .loop2-test .taken) _ refl (c .before .before .before .before .before .before .before .before .before .before .before .before .before .before .before .before .before .before .before .before .before .before .before .if3 .left) (c .before .before .before .before .before .before .before .before .before .before .before .before .before .before .before .before .before .before .before .before .before .before .if6 .taken) (c .before .before .before .before .before .before .before .before .before .before .before .gather .result) _ _ _ (c .before .before .before .before .before .before .before .before .before .before .before .gather .ensures) (c .if7 .left) (record { names = c .before .before .before .before .before .before .before .before .before .before .before .gather .kept .1 .0; blocks = c .before .before .before .before .before .before .before .before .before .before .before .gather .kept .1 .1 .0; indexes = c .before .before .before .before .before .before .before .before .before .before .before .gather .kept .1 .1 .1 .0; firsts = c .before .before .before .before .before .before .before .before .before .before .before .gather .kept .1 .1 .1 .1 .0; widths = c .before .before .before .before .before .before .before .before .before .before .before .gather .kept .1 .1 .1 .1 .1 .0; values = c .before .before .before .before .before .before .before .before .before .before .before .gather .kept .1 .1 .1 .1 .1 .1 .0 })
+each-loop2-again-5 t c = rows-gather _ _ _ _ _ _ _ _ _ _ _ _ _ _ _ _ _ (c .before .before .before .before .before .before .before .before .before .before .before .before .before .before .before .before .before .before .before .before .before .before .before .before .before .before .before .before .loop2 .inv) (c .before .before .before .before .before .before .before .before .before .before .before .before .before .before .before .before .before .before .before .before .before .before .before .before .before .before .before .loop2-test .taken) _ refl (c .before .before .before .before .before .before .before .before .before .before .before .before .before .before .before .before .before .before .before .before .before .before .before .before .if3 .left) (c .before .before .before .before .before .before .before .before .before .before .before .before .before .before .before .before .before .before .before .before .before .before .before .if6 .taken) (c .before .before .before .before .before .before .before .before .before .before .before .before .gather .result) _ _ _ (c .before .before .before .before .before .before .before .before .before .before .before .before .gather .ensures) (c .before .if7 .left) (record { names = c .before .before .before .before .before .before .before .before .before .before .before .before .gather .kept .1 .0; blocks = c .before .before .before .before .before .before .before .before .before .before .before .before .gather .kept .1 .1 .0; indexes = c .before .before .before .before .before .before .before .before .before .before .before .before .gather .kept .1 .1 .1 .0; firsts = c .before .before .before .before .before .before .before .before .before .before .before .before .gather .kept .1 .1 .1 .1 .0; widths = c .before .before .before .before .before .before .before .before .before .before .before .before .gather .kept .1 .1 .1 .1 .1 .0; values = c .before .before .before .before .before .before .before .before .before .before .before .before .gather .kept .1 .1 .1 .1 .1 .1 .0 })
 
 each-derive-requires : (t : ℕ) → each-lts.Need-derive-requires (each-claims t) (each-at t) each.Post each-Inv-loop2 each-μ-loop2 each-Inv-loop each-μ-loop
 each-derive-requires t c κs = (c .before .before .before .before .before .before .before .before .before .before .loop2 .inv .right .held, c .before .before .before .before .before .before .before .before .before .before .loop2 .inv .right .memo)
@@ -274,10 +274,10 @@ each-returns-5 : (t : ℕ) → each-lts.Need-returns-5 (each-claims t) (each-at 
 each-returns-5 t c = turns-off _ _ _ _ _ _ _ _ _ _ _ _ _ _ _ _ _ _ (c .before .before .before .before .before .before .before .before .before .before .before .before .before .before .before .before .before .before .before .before .before .before .before .before .before .before .before .before .before .before .before .before .before .before .before .before .loop .inv) (c .before .before .before .before .before .before .before .before .before .before .before .before .before .before .before .before .before .before .before .before .before .before .before .before .before .before .before .before .before .before .before .before .before .before .before .loop-test .taken) _ (c .before .before .before .before .before .before .before .before .before .before .before .before .before .before .before .before .before .before .before .before .before .before .before .before .before .before .before .before .before .before .before .before .before .put .ensures) (c .before .before .before .before .before .before .before .before .before .before .before .each .result) _ _ _ (c .if12 .taken) (c .before .before .before .before .before .before .before .before .before .before .before .each .ensures .right) (each-off _ _ _ _ _ _ _ _ _ _ _ _ _ _ _ _ _ (c .before .before .before .before .before .before .before .before .before .before .before .before .before .before .before .before .before .before .before .before .before .before .before .before .before .before .before .before .before .before .before .before .loop2 .inv) (c .before .before .before .before .before .before .before .before .before .before .before .before .before .before .before .before .before .before .before .before .before .before .before .before .before .before .before .before .before .before .before .loop2-test .taken) _ refl (c .before .before .before .before .before .before .before .before .before .before .before .before .before .before .before .before .before .before .before .before .before .before .before .before .before .before .before .before .if3 .left) (c .before .before .before .before .before .before .before .before .before .before .before .before .before .before .before .before .before .before .before .before .before .before .before .before .before .before .before .if6 .left) (c .before .before .before .before .before .before .before .before .before .before .before .before .before .before .before .before .before .before .before .before .before .before .before .before .before .if10 .left) (c .before .before .before .before .before .before .before .before .before .before .before .before .before .before .before .before .before .before .before .before .before .before .before .loop-of .result) (c .before .before .before .before .before .before .before .before .before .before .before .before .before .before .before .before .before .before .before .before .before .before .before .loop-of .ensures .0) (c .before .before .before .before .before .before .before .before .before .before .before .each .result) _ _ _ (c .before .before .before .before .before .before .before .before .before .before .before .each .ensures) (c .if12 .taken))
 
 each-loop2-less-8 : (t : ℕ) → each-lts.Need-loop2-less-8 (each-claims t) (each-at t) each.Post each-Inv-loop2 each-μ-loop2 each-Inv-loop each-μ-loop
-each-loop2-less-8 t c = weigh-past _ _ _ (c .before .before .before .before .before .before .before .before .before .before .before .before .before .before .before .before .before .before .before .before .before .before .before .before .before .before .before .before .before .before .before .loop2-test .taken) _
+each-loop2-less-8 t c = weigh-past _ _ _ (c .before .before .before .before .before .before .before .before .before .before .before .before .before .before .before .before .before .before .before .before .before .before .before .before .before .before .before .before .before .before .before .before .loop2-test .taken) _
 
 each-loop2-again-8 : (t : ℕ) → each-lts.Need-loop2-again-8 (each-claims t) (each-at t) each.Post each-Inv-loop2 each-μ-loop2 each-Inv-loop each-μ-loop
-each-loop2-again-8 t c = rows-each _ _ _ _ _ _ _ _ _ _ _ _ _ _ _ _ _ (c .before .before .before .before .before .before .before .before .before .before .before .before .before .before .before .before .before .before .before .before .before .before .before .before .before .before .before .before .before .before .before .before .loop2 .inv) (c .before .before .before .before .before .before .before .before .before .before .before .before .before .before .before .before .before .before .before .before .before .before .before .before .before .before .before .before .before .before .before .loop2-test .taken) _ refl (c .before .before .before .before .before .before .before .before .before .before .before .before .before .before .before .before .before .before .before .before .before .before .before .before .before .before .before .before .if3 .left) (c .before .before .before .before .before .before .before .before .before .before .before .before .before .before .before .before .before .before .before .before .before .before .before .before .before .before .before .if6 .left) (c .before .before .before .before .before .before .before .before .before .before .before .before .before .before .before .before .before .before .before .before .before .before .before .before .before .if10 .left) (c .before .before .before .before .before .before .before .before .before .before .before .before .before .before .before .before .before .before .before .before .before .before .before .loop-of .result) (c .before .before .before .before .before .before .before .before .before .before .before .before .before .before .before .before .before .before .before .before .before .before .before .loop-of .ensures .0) (c .before .before .before .before .before .before .before .before .before .before .before .each .result) _ _ _ (c .before .before .before .before .before .before .before .before .before .before .before .each .ensures) (c .if12 .left) (record { names = c .before .before .before .before .before .before .before .before .before .before .before .each .kept .1 .1 .0; blocks = c .before .before .before .before .before .before .before .before .before .before .before .each .kept .1 .1 .1 .0; indexes = c .before .before .before .before .before .before .before .before .before .before .before .each .kept .1 .1 .1 .1 .0; firsts = c .before .before .before .before .before .before .before .before .before .before .before .each .kept .1 .1 .1 .1 .1 .0; widths = c .before .before .before .before .before .before .before .before .before .before .before .each .kept .1 .1 .1 .1 .1 .1 .0; values = c .before .before .before .before .before .before .before .before .before .before .before .each .kept .1 .1 .1 .1 .1 .1 .1 .0 }) _ (c .before .before .before .before .before .before .before .before .before .before .before .before .before .before .before .before .before .before .before .before .before .before .before .before .before .before .before .before .before .before .before .before .before .before .before .before .before .before .before .before .before .before .before .pre .1 .stands)
+each-loop2-again-8 t c = rows-each _ _ _ _ _ _ _ _ _ _ _ _ _ _ _ _ _ (c .before .before .before .before .before .before .before .before .before .before .before .before .before .before .before .before .before .before .before .before .before .before .before .before .before .before .before .before .before .before .before .before .before .loop2 .inv) (c .before .before .before .before .before .before .before .before .before .before .before .before .before .before .before .before .before .before .before .before .before .before .before .before .before .before .before .before .before .before .before .before .loop2-test .taken) _ refl (c .before .before .before .before .before .before .before .before .before .before .before .before .before .before .before .before .before .before .before .before .before .before .before .before .before .before .before .before .before .if3 .left) (c .before .before .before .before .before .before .before .before .before .before .before .before .before .before .before .before .before .before .before .before .before .before .before .before .before .before .before .before .if6 .left) (c .before .before .before .before .before .before .before .before .before .before .before .before .before .before .before .before .before .before .before .before .before .before .before .before .before .before .if10 .left) (c .before .before .before .before .before .before .before .before .before .before .before .before .before .before .before .before .before .before .before .before .before .before .before .before .loop-of .result) (c .before .before .before .before .before .before .before .before .before .before .before .before .before .before .before .before .before .before .before .before .before .before .before .before .loop-of .ensures .0) (c .before .before .before .before .before .before .before .before .before .before .before .before .each .result) _ _ _ (c .before .before .before .before .before .before .before .before .before .before .before .before .each .ensures) (c .before .if12 .left) (record { names = c .before .before .before .before .before .before .before .before .before .before .before .before .each .kept .1 .1 .0; blocks = c .before .before .before .before .before .before .before .before .before .before .before .before .each .kept .1 .1 .1 .0; indexes = c .before .before .before .before .before .before .before .before .before .before .before .before .each .kept .1 .1 .1 .1 .0; firsts = c .before .before .before .before .before .before .before .before .before .before .before .before .each .kept .1 .1 .1 .1 .1 .0; widths = c .before .before .before .before .before .before .before .before .before .before .before .before .each .kept .1 .1 .1 .1 .1 .1 .0; values = c .before .before .before .before .before .before .before .before .before .before .before .before .each .kept .1 .1 .1 .1 .1 .1 .1 .0 }) _ (c .before .before .before .before .before .before .before .before .before .before .before .before .before .before .before .before .before .before .before .before .before .before .before .before .before .before .before .before .before .before .before .before .before .before .before .before .before .before .before .before .before .before .before .before .pre .1 .stands)
 
 each-add-j : (t : ℕ) → each-lts.Need-add-j (each-claims t) (each-at t) each.Post each-Inv-loop2 each-μ-loop2 each-Inv-loop each-μ-loop
 each-add-j t c = omega (arith, c .before .before .before .before .loop-test .taken)

@@ -6,7 +6,7 @@ use Rattle.rows.proofs.steps.amount.Statement.{statement}
 use Rattle.rows.proofs.steps.amount.Tie as tie
 
 returns : tie.Need-returns
-returns c = value-here _ _ _ (c .if1 .taken)
+returns c = value-here _ _ _ (c .before .if1 .taken)
 
 returns-2 : tie.Need-returns-2
 returns-2 c = value-let _ _ _ _ (c .before .before .source .ensures) (c .before .if2 .taken) _ (c .linear .ensures)
@@ -25,7 +25,7 @@ returns-5 c = value-minus _ _ _ _ (c .before .before .before .before .before .so
 
 pub amount-spec : {M : Type 1} → statement M
 amount-spec =
-    tie.close (tie.spec returns (λ c κs. search needs) (λ c κs. search needs) returns-2 (λ c. search needs)
-    (λ c. search needs) mul-less (λ c. search needs) (λ c κs. search needs) returns-3 (λ c κs. search needs)
-    (λ c. search needs) (λ c. search needs) (λ c. search needs) returns-4 (λ c. search needs) (λ c. search needs)
-    (λ c κs. search needs) returns-5)
+    tie.close (tie.spec (λ c. search needs) returns (λ c κs. search needs) (λ c κs. search needs) returns-2
+    (λ c. search needs) (λ c. search needs) mul-less (λ c. search needs) (λ c κs. search needs) returns-3
+    (λ c κs. search needs) (λ c. search needs) (λ c. search needs) (λ c. search needs) returns-4 (λ c. search needs)
+    (λ c. search needs) (λ c κs. search needs) returns-5)
