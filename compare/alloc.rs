@@ -11,11 +11,7 @@ use std::time::Instant;
 
 #[allow(improper_ctypes)]
 extern "C" {
-    fn alloc_by_codes(
-        exps: &[u8], out: &mut [u8], offset: &[u8; 8], len: &[u8; 8], ba: &[u8; 8], n: usize, start: usize, end: usize,
-        fscod: usize, sdcycod: u8, fdcycod: u8, sgaincod: u8, dbpbcod: u8, floorcod: u8, fgaincod: u8, csnroffst: u8,
-        fsnroffst: u8, coupling: bool, cplfleak: u8, cplsleak: u8, hebap: bool,
-    );
+    fn alloc_by_codes(exps: &[u8], out: &mut [u8], segments: &[[u8; 8]; 3], codes: &[u8; 14], start: usize, end: usize);
 }
 
 struct Random(u64);
@@ -34,8 +30,15 @@ impl Random {
 
 #[derive(Clone)]
 struct Input {
-    exps: [u8; 256], start: usize, end: usize, n: usize, offset: [u8; 8], len: [u8; 8], ba: [u8; 8], fscod: usize,
-    bai: [u8; 5], fgaincod: u8, csnr: u8, fsnr: u8, coupling: bool, leaks: (u8, u8), hebap: bool,
+    exps: [u8; 256], start: usize, end: usize, n: usize, segments: [[u8; 8]; 3], fscod: usize, bai: [u8; 5], fgaincod: u8,
+    csnr: u8, fsnr: u8, coupling: bool, leaks: (u8, u8), hebap: bool, codes: [u8; 14],
+}
+
+// The codes in the order of crates/alloc_host/specs/Host.antt.
+fn codes(i: &Input) -> [u8; 14] {
+    let b = &i.bai;
+    [i.fscod as u8, b[0], b[1], b[2], b[3], b[4], i.fgaincod, i.csnr, i.fsnr, i.leaks.0, i.leaks.1, i.coupling as u8,
+        i.hebap as u8, i.n as u8]
 }
 
 fn input(r: &mut Random) -> Input {
@@ -59,23 +62,21 @@ fn input(r: &mut Random) -> Input {
             for x in exps.iter_mut() { e = (e + r.below(5) as i32 - 2).clamp(0, 24); *x = e as u8 }
         }
     }
-    let (mut offset, mut len, mut ba) = ([0u8; 8], [0u8; 8], [0u8; 8]);
+    let mut segments = [[0u8; 8]; 3];                                            // offsets, lengths, values
     let spread = [1, 4, 32][r.below(3) as usize];                                // small offsets keep segments close
-    for i in 0..8 { offset[i] = r.byte(spread); len[i] = r.byte(16); ba[i] = r.byte(8) }
-    Input {
-        exps, start, end, n: if r.below(2) == 0 { 0 } else { r.below(9) as usize }, offset, len, ba, fscod: r.below(3) as usize,
+    for i in 0..8 { segments[0][i] = r.byte(spread); segments[1][i] = r.byte(16); segments[2][i] = r.byte(8) }
+    let mut i = Input {
+        exps, start, end, n: if r.below(2) == 0 { 0 } else { r.below(9) as usize }, segments, fscod: r.below(3) as usize,
         bai: [r.byte(4), r.byte(4), r.byte(4), r.byte(4), r.byte(8)], fgaincod: r.byte(8), csnr: r.byte(64), fsnr: r.byte(16),
-        coupling, leaks: (r.byte(8), r.byte(8)), hebap: r.below(2) == 0,
-    }
+        coupling, leaks: (r.byte(8), r.byte(8)), hebap: r.below(2) == 0, codes: [0; 14],
+    };
+    i.codes = codes(&i);
+    i
 }
 
 fn ours(i: &Input, out: &mut [u8; 256]) {
-    let b = &i.bai;
     // The inputs meet the function's premises: 256 exponents of at most 24, end at most 253, at most 8 segments, codes in range.
-    unsafe {
-        alloc_by_codes(&i.exps, out, &i.offset, &i.len, &i.ba, i.n, i.start, i.end, i.fscod, b[0], b[1], b[2], b[3], b[4],
-            i.fgaincod, i.csnr, i.fsnr, i.coupling, i.leaks.0, i.leaks.1, i.hebap)
-    }
+    unsafe { alloc_by_codes(&i.exps, out, &i.segments, &i.codes, i.start, i.end) }
 }
 
 fn theirs(i: &Input, exp: &[i16; 256], delta: &[rust::DeltaSeg]) -> Vec<u8> {
@@ -94,7 +95,7 @@ fn theirs(i: &Input, exp: &[i16; 256], delta: &[rust::DeltaSeg]) -> Vec<u8> {
 fn rust_parts(i: &Input) -> ([i16; 256], Vec<rust::DeltaSeg>) {
     let mut exp = [0i16; 256];
     for k in 0..256 { exp[k] = i16::from(i.exps[k]) }
-    (exp, (0..i.n).map(|k| rust::DeltaSeg { offset: i.offset[k], len: i.len[k], ba: i.ba[k] }).collect())
+    (exp, (0..i.n).map(|k| rust::DeltaSeg { offset: i.segments[0][k], len: i.segments[1][k], ba: i.segments[2][k] }).collect())
 }
 
 fn time(name: &str, runs: u32, mut f: impl FnMut() -> u64) {
@@ -131,6 +132,7 @@ fn main() {
     for (name, start, end, n) in [("empty range", 0, 0, 0), ("LFE, 7 bins", 0, 7, 0), ("coupling, 120 bins", 37, 157, 0), ("253 bins", 0, 253, 0), ("253 bins, 8 segments", 0, 253, 8)] {
         let mut i = input(&mut Random(7));
         i.start = start; i.end = end; i.n = n; i.csnr = 30; i.bai = [2, 1, 1, 2, 7]; i.coupling = start > 0;
+        i.codes = codes(&i);
         for k in 0..256 { i.exps[k] = (3 + k / 20 + k % 3) as u8 }
         let (exp, delta) = rust_parts(&i);
         let mut out = [0u8; 256];
