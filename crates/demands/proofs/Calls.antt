@@ -12,7 +12,8 @@ use Rattle.reading.specs.Frame.{parse}
 use Rattle.reading.specs.CommonReading.{list}
 use Rattle.cells.specs.Cells.{State}
 use Rattle.annex.specs.Frame.{eac3}
-use Rattle.eac3.specs.Answer.{answerBy, answerOf, countOf}
+use Rattle.bits.specs.declared.BitPlace.{BitPlace}
+use Rattle.eac3.specs.Answer.{answerBy, answerOf, placeAt}
 use Rattle.eac3.specs.declared.answer.Answer.{Answer}
 use Rattle.eac3.specs.declared.answer.Verdict.the-variants.{Accepted, Refused}
 use Rattle.demands.specs.Calls.{Call, recordAt, count, nth, Accepts, Refuses}

@@ -1,1 +1,2 @@
 pub mod Strategies
+pub mod Table

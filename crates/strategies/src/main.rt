@@ -3,75 +3,102 @@
 mod found;
 mod grid;
 
+ghost use mathlib.Core.Path.{_≡_};
 ghost use Prim.Native.Nat.{_<_, _≤_};
+ghost use lib.ListN.{length};
+ghost use Rattle.print.specs.Text.{Added};
+ghost use Rattle.strategies.specs.Table.{namesOf, headingOf, cellOf, fullOf, labelOf, rowOf, rowsOf, blocksOf, channelsOf, tableOf, textOf};
 use eac3::answer::Verdict;
 use listing::Records;
 use names::numbers;
-use print::newline;
-use print::text;
+use print::put;
 
 // The full bandwidth channels by acmod (A/52 table 5.8).
-fn channels(acmod: u32) {
+fn channel_names(out: &mut [u8], at: usize, acmod: u32) -> usize
+    ensures { λ e. ⌜ Added (now (out .entry)) at (namesOf acmod) (now (out .exit)) e ⌝ }
+{
     match acmod {
-        0 => text(b"    Ch1    Ch2"),
-        1 => text(b"      C"),
-        2 => text(b"      L      R"),
-        3 => text(b"      L      C      R"),
-        4 => text(b"      L      R      S"),
-        5 => text(b"      L      C      R      S"),
-        6 => text(b"      L      R     Ls     Rs"),
-        _ => text(b"      L      C      R     Ls     Rs"),
+        0 => put(out, at, b"    Ch1    Ch2"),
+        1 => put(out, at, b"      C"),
+        2 => put(out, at, b"      L      R"),
+        3 => put(out, at, b"      L      C      R"),
+        4 => put(out, at, b"      L      R      S"),
+        5 => put(out, at, b"      L      C      R      S"),
+        6 => put(out, at, b"      L      R     Ls     Rs"),
+        _ => put(out, at, b"      L      C      R     Ls     Rs"),
     }
 }
 
-fn heading(acmod: u32) {
-    text(b"block    CPL");
-    channels(acmod);
-    text(b"    LFE\n");
+fn heading(out: &mut [u8], acmod: u32) -> usize
+    ensures { λ e. ⌜ Added (now (out .entry)) 0 (headingOf acmod) (now (out .exit)) e ⌝ }
+{
+    let at = put(out, 0, b"block    CPL");
+    let at = channel_names(out, at, acmod);
+    put(out, at, b"    LFE\n")
 }
 
-fn cell(strategy: u8) {
+fn cell(out: &mut [u8], at: usize, strategy: u8) -> usize
+    ensures { λ e. ⌜ Added (now (out .entry)) at (cellOf strategy) (now (out .exit)) e ⌝ }
+{
     match strategy {
-        0 => text(b"  reuse"),
-        1 => text(b"    D15"),
-        2 => text(b"    D25"),
-        3 => text(b"    D45"),
-        _ => text(b"      -"),
+        0 => put(out, at, b"  reuse"),
+        1 => put(out, at, b"    D15"),
+        2 => put(out, at, b"    D25"),
+        3 => put(out, at, b"    D45"),
+        _ => put(out, at, b"      -"),
     }
 }
 
-fn full(r: Records, count: usize, block: u8, nfchans: u8) {
+// The cells of the full bandwidth channels.
+fn full(out: &mut [u8], at: usize, r: Records, count: usize, block: u8, nfchans: u8) -> usize
+    requires { ⌜ at ≤ length (now out) ⌝ }
+    ensures { λ e. ⌜ Added (now (out .entry)) at (fullOf r count block nfchans) (now (out .exit)) e ⌝ }
+{
+    let mut end = at;
     let mut ch: u8 = 0;
     while ch < nfchans {
-        cell(grid::channel(r, count, block, ch));
+        end = cell(out, end, grid::channel(r, count, block, ch));
         ch += 1;
     }
+    end
 }
 
-fn row(r: Records, count: usize, block: u8, nfchans: u8)
+// The number of a block.
+fn label(out: &mut [u8], at: usize, block: u8) -> usize
+    ensures { λ e. ⌜ Added (now (out .entry)) at (labelOf block) (now (out .exit)) e ⌝ }
+{
+    let at = put(out, at, b"    ");
+    print::decimal(out, at, block as u64)
+}
+
+fn row(out: &mut [u8], at: usize, r: Records, count: usize, block: u8, nfchans: u8) -> usize
     requires { ⌜ block < 6 ⌝ }
+    ensures { λ e. ⌜ Added (now (out .entry)) at (rowOf r count nfchans block) (now (out .exit)) e ⌝ }
 {
-    text(b"    ");
-    print::number(block as u64);
-    cell(grid::coupling(r, count, block));
-    full(r, count, block, nfchans);
-    cell(grid::lfe(r, count, block));
-    newline();
+    let at = label(out, at, block);
+    let at = cell(out, at, grid::coupling(r, count, block));
+    let at = full(out, at, r, count, block, nfchans);
+    let at = cell(out, at, grid::lfe(r, count, block));
+    put(out, at, b"\n")
 }
 
-fn rows(r: Records, count: usize, numblks: u8, nfchans: u8)
+fn rows(out: &mut [u8], at: usize, r: Records, count: usize, numblks: u8, nfchans: u8) -> usize
+    requires { ⌜ at ≤ length (now out) ⌝ }
     requires { ⌜ numblks ≤ 6 ⌝ }
+    ensures { λ e. ⌜ Added (now (out .entry)) at (rowsOf r count nfchans numblks) (now (out .exit)) e ⌝ }
 {
+    let mut end = at;
     let mut block: u8 = 0;
     while block < numblks {
-        row(r, count, block, nfchans);
+        end = row(out, end, r, count, block, nfchans);
         block += 1;
     }
+    end
 }
 
 // How many blocks a frame has, by numblkscod.
 fn blocks(numblkscod: u32) -> u8
-    ensures { λ r. ⌜ r ≤ 6 ⌝ }
+    ensures { λ r. ⌜ (r ≡ blocksOf numblkscod) × (r ≤ 6) ⌝ }
 {
     match numblkscod {
         0 => 1,
@@ -82,25 +109,38 @@ fn blocks(numblkscod: u32) -> u8
 }
 
 // How many full bandwidth channels there are, by acmod.
-fn full_channels(acmod: u32) -> u8 {
+fn full_channels(acmod: u32) -> u8
+    ensures { λ r. ⌜ r ≡ channelsOf acmod ⌝ }
+{
     let table = tables::nfchans();
     table[acmod as usize % 8]
 }
 
-fn table(r: Records) {
+fn table(out: &mut [u8], r: Records) -> usize
+    ensures { λ e. ⌜ Added (now (out .entry)) 0 (tableOf r) (now (out .exit)) e ⌝ }
+{
     let count = listing::count_of(r.answer);
     let acmod = grid::element(r, count, numbers::ACMOD);
-    heading(acmod);
+    let at = heading(out, acmod);
     let numblks = blocks(grid::element(r, count, numbers::NUMBLKSCOD));
-    rows(r, count, numblks, full_channels(acmod));
+    rows(out, at, r, count, numblks, full_channels(acmod))
+}
+
+// The table, or the answer of a frame that is refused.
+fn text(out: &mut [u8], r: Records) -> usize
+    ensures { λ e. ⌜ Added (now (out .entry)) 0 (textOf r) (now (out .exit)) e ⌝ }
+{
+    let answer = r.answer;
+    let verdict = answer.verdict;
+    match verdict {
+        Verdict::Accepted => table(out, r),
+        Verdict::Refused(_, _, _) => listing::first_line(out, 0, answer),
+    }
 }
 
 fn main() {
     let r = listing::input();
-    let answer = r.answer;
-    let verdict = answer.verdict;
-    match verdict {
-        Verdict::Accepted => table(r),
-        Verdict::Refused(_, _, _) => listing::first_line(answer),
-    }
+    let mut out = [0u8; 1024];
+    let size = text(&mut out, r);
+    print::write(&out, size);
 }
