@@ -1,5 +1,4 @@
-use native.Mathlib.Omega.{arith}
-use Rattle.rows.proofs.Takes.{ends, span-past, span-found}
+use Rattle.rows.proofs.Takes.{span-past, span-found}
 use borrow.Author.Needs.{needs}
 use Rattle.rows.proofs.inputs.span.Statement.{statement}
 use Rattle.rows.proofs.inputs.span.Tie as tie
