@@ -18,7 +18,7 @@ use Rattle.annex.specs.Frame.{announcedBy, eac3}
 use Rattle.annex.proofs.Header.{tells}
 use Rattle.facts.specs.Outcomes.{refusals, Numbered}
 use Rattle.facts.proofs.Outcomes.{all-keep}
-use Rattle.eac3.specs.Answer.{answerBy, numberOf, placeOf}
+use Rattle.answer.specs.Answer.{answerBy, numberOf, placeOf}
 use Rattle.demands.specs.Calls.{count}
 use Rattle.demands.specs.Answers.{numbers, Kept, AllAnswer}
 use Rattle.demands.proofs.Rooms.{cut-fits}

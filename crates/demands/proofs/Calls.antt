@@ -13,9 +13,9 @@ use Rattle.reading.specs.CommonReading.{list}
 use Rattle.cells.specs.Cells.{State}
 use Rattle.annex.specs.Frame.{eac3}
 use Rattle.bits.specs.declared.BitPlace.{BitPlace}
-use Rattle.eac3.specs.Answer.{answerBy, answerOf, placeAt}
-use Rattle.eac3.specs.declared.answer.Answer.{Answer}
-use Rattle.eac3.specs.declared.answer.Verdict.the-variants.{Accepted, Refused}
+use Rattle.answer.specs.Answer.{answerBy, answerOf, placeAt}
+use Rattle.answer.specs.declared.Answer.{Answer}
+use Rattle.answer.specs.declared.Verdict.the-variants.{Accepted, Refused}
 use Rattle.demands.specs.Calls.{Call, recordAt, count, nth, Accepts, Refuses}
 use Rattle.demands.proofs.Rooms.{cut-fits, filled, within}
 

@@ -14,8 +14,9 @@ use Rattle.annex.specs.Frame.{eac3}
 use Rattle.facts.specs.Outcomes.{refusals, Numbered}
 use Rattle.facts.specs.Suffices.{enough}
 use Rattle.facts.proofs.Room.{not-33, enough-room}
-use Rattle.eac3.specs.Answer.{answered, answerBy, answerOf, numberOf}
-use Rattle.eac3.specs.declared.answer.Answer.{Answer}
+use Rattle.answer.specs.Answer.{answerBy, answerOf, numberOf}
+use Rattle.eac3.specs.Called.{answered}
+use Rattle.answer.specs.declared.Answer.{Answer}
 use Rattle.demands.specs.Suffices.{NeverFull}
 
 answers : (s : List ℕ) (m : Room) → enough ≤ size m → ¬ (numberOf (answerOf (answered s m)) ≡ 33)

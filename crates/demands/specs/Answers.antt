@@ -7,7 +7,7 @@ use mathlib.Core.List.{List, [], _∷_}
 use lib.ListN.{length, getElem?}
 use Rattle.reading.specs.Room.{size}
 use Rattle.rows.specs.Syntax.{among}
-use Rattle.eac3.specs.Answer.{numberOf, placeOf}
+use Rattle.answer.specs.Answer.{numberOf, placeOf}
 use Rattle.annex.specs.Frame.{announcedBy}
 use Rattle.demands.specs.Calls.{Call, count, Accepts}
 

@@ -6,9 +6,10 @@ use lib.IntN.{pos}
 use lib.ListN.{getD}
 use Rattle.reading.specs.Run.{Field}
 use Rattle.reading.specs.Room.{Room}
-use Rattle.eac3.specs.Answer.{Called, placeAt, countOf}
-use Rattle.eac3.specs.declared.answer.Answer.{Answer}
-use Rattle.eac3.specs.declared.answer.Verdict.the-variants.{Accepted, Refused}
+use Rattle.answer.specs.Answer.{placeAt, countOf}
+use Rattle.eac3.specs.Called.{Called}
+use Rattle.answer.specs.declared.Answer.{Answer}
+use Rattle.answer.specs.declared.Verdict.the-variants.{Accepted, Refused}
 
 -- a call with the slice s: the room that was lent, the answer, and the room then
 pub record Call (s : List ℕ) : Type 0 where

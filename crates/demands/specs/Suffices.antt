@@ -4,8 +4,9 @@ use mathlib.Core.List.{List}
 use Prim.Native.Nat.{ℕ, _≤_}
 use Rattle.reading.specs.Room.{Room, size}
 use Rattle.facts.specs.Suffices.{enough}
-use Rattle.eac3.specs.Answer.{Called, numberOf}
-use Rattle.eac3.specs.declared.answer.Answer.{Answer}
+use Rattle.answer.specs.Answer.{numberOf}
+use Rattle.eac3.specs.Called.{Called}
+use Rattle.answer.specs.declared.Answer.{Answer}
 
 abbrev pub NeverFull : Type 0
 NeverFull = (s : List ℕ) (m : Room) (a : Answer) (m′ : Room) → Called s m a m′ → enough ≤ size m → ¬ (numberOf a ≡ 33)

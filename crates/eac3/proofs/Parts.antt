@@ -32,9 +32,12 @@ use Rattle.annex.specs.Tail.{tail}
 use Rattle.annex.specs.Frame.{start, tailNames, bytesOf, eac3}
 use Rattle.annex.proofs.Header.{frmsiz-is}
 use Rattle.annex.proofs.Tails.{Outside, rows-tail}
-use Rattle.eac3.specs.Answer.{answered, answerBy, answerOf, numberOf, placeOf as answerPlace, countOf, numberIn, Called}
-use Rattle.eac3.specs.Parts.{placed, followed, stoppedBy, readOf, refusalFrom, answerFrom}
-use Rattle.eac3.specs.declared.answer.Answer.{Answer}
+use Rattle.answer.specs.Answer.{answerOf, numberOf, placeOf as answerPlace, countOf}
+use Rattle.answer.specs.Cursors.{refusalFrom, answerFrom}
+use Rattle.answer.specs.declared.Answer.{Answer}
+use Rattle.answer.proofs.Laws.{answer-from, number-by, place-by, count-by}
+use Rattle.eac3.specs.Called.{answered, Called}
+use Rattle.eac3.specs.Parts.{placed, followed, stoppedBy, readOf}
 
 followed-then : (c : Cursor) (st : State) (m : Room) (f : State → ℕ → Outcome State)
     → followed c st m f ≡ (outcome c st m then (λ a p i r. placed i r (f a p)))
@@ -171,29 +174,6 @@ module _ (s : List ℕ) (c : Cursor) (st : State) (m : Room) (live : c .stopped 
 
     pub tail-follows : d .stopped ≡ false → (r : Cursor) (mt : Room) → outcome r su mt ≡ placed (d .count) mu (finish tailNames s l su (d .at .0)) → outcome r su mt ≡ followed c st m (sized eac3 s)
     tail-follows x r mt q = whole _ (goes-on d su mu (finish tailNames s l) _ x q)
-
--- the answer
-answer-from : (c : Cursor) (st : State) (m : Room) → answerFrom c (st .cells) ≡ answerOf (outcome c st m)
-unfolding answerOf
-answer-from c st m = go (c .stopped)
-  where
-    go : (b : Bool) → cond b (answerBy (refused (c .number)) (c .at .0) (c .count)) (answerBy (accepted st) (c .at .0) (c .count))
-        ≡ answerBy (cond b (refused (c .number)) (accepted st)) (c .at .0) (c .count)
-    go true = refl
-    go false = refl
-
--- number, place and count of an outcome's answer
-number-by : (r : Result State) (p n : ℕ) → numberOf (answerBy r p n) ≡ numberIn r
-number-by (accepted st) p n = refl
-number-by (refused k) p n = refl
-
-place-by : (r : Result State) (p n k : ℕ) → r ≡ refused k → answerPlace (answerBy r p n) ≡ p
-place-by (accepted st) p n k e = absurd (let z : _≡_ {A = ℕ} 0 1 = cc in omega arith)
-place-by (refused j) p n k e = refl
-
-count-by : (r : Result State) (p n : ℕ) → countOf (answerBy r p n) ≡ n
-count-by (accepted st) p n = refl
-count-by (refused k) p n = refl
 
 module _ (s : List ℕ) (m : Room) where
   called : {a : Answer} {mu : Room} → a ≡ answerOf (answered s m) → mu ≡ answered s m .left → Called s m a mu

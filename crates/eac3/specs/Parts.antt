@@ -18,9 +18,6 @@ use Rattle.rows.specs.Syntax.{meaning}
 use Rattle.annex.specs.Annex.{header}
 use Rattle.annex.specs.Frame.{start, eac3}
 use Rattle.annex.specs.Table.{Annexed}
-use Rattle.eac3.specs.Answer.{frameOf, nothing}
-use Rattle.eac3.specs.declared.answer.Answer.{Answer}
-use Rattle.eac3.specs.declared.answer.Verdict.the-variants.{Accepted, Refused}
 
 -- an outcome, at the room from the count n on
 abbrev pub placed : ℕ → Room → Outcome State → Out State
@@ -49,10 +46,3 @@ pub record Framed (s : List ℕ) (c : Cursor) (st : State) (m : Room) (r : Curso
 -- a slice of 6 bytes or more
 unfoldable pub readOf : List ℕ → Outcome State
 readOf s = after (run (meaning header start) s 0 48) (sized eac3 s)
-
--- the answer of a cursor that is stopped, which needs no cells; the answer of any
-abbrev pub refusalFrom : Cursor → Answer
-refusalFrom c = record { verdict = Refused (c .number) (c .at) (c .count); frame = nothing }
-
-abbrev pub answerFrom : Cursor → List ℕ → Answer
-answerFrom c m = cond (c .stopped) (refusalFrom c) (record { verdict = Accepted; frame = frameOf m (c .at .0) (c .count) })

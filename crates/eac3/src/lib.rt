@@ -1,6 +1,4 @@
 // The reader of E-AC-3 syncframes (eac3.rs; A/52 Annex E, TS 102 366 Annex E).
-pub mod answer;
-
 ghost use mathlib.Core.Path.{_≡_};
 ghost use Prim.Native.Nat.{_+_, _-_, _*_, _%_, _≤_, _<_};
 ghost use lib.ListN.{length};
@@ -10,7 +8,7 @@ ghost use Rattle.cells.specs.Cells.{state, cellOf, putIn};
 ghost use Rattle.cells.specs.Names.{FRMSIZ as frmsiz, FRAME-END, AUXDATAE as auxdatae};
 ghost use Rattle.annex.specs.Frame.{start};
 ghost use Rattle.bits.specs.Bits.{bitsAt};
-ghost use Rattle.eac3.specs.Answer.{Called};
+ghost use Rattle.eac3.specs.Called.{Called};
 ghost use Rattle.eac3.specs.Parts.{stoppedBy, Headed, Framed};
 use annex::annex;
 use answer::Answer;

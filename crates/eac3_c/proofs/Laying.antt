@@ -4,9 +4,9 @@ use mathlib.Core.List.{List, _∷_}
 use Prim.Native.Nat.{ℕ, _+_}
 use native.Mathlib.Numerals.{add-one}
 use lib.ListN.{getD, set}
-use Rattle.eac3.specs.declared.answer.Answer.{Answer}
+use Rattle.answer.specs.declared.Answer.{Answer}
 use Rattle.eac3_c.specs.Numbers.{framed, laid, laidOf, frameNumbers}
-use Rattle.eac3.specs.Answer.{numberOf, placeOf, countOf}
+use Rattle.answer.specs.Answer.{numberOf, placeOf, countOf}
 
 pub framed-none : (m vs : List ℕ) → m ≡ framed m vs 0
 unfolding framed

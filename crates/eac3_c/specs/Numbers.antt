@@ -7,9 +7,9 @@ use lib.ListN.{getD, set}
 use Rattle.reading.specs.Room.{Room, Out}
 use Rattle.cells.specs.Cells.{State}
 use Rattle.bits.specs.declared.BitPlace.{BitPlace}
-use Rattle.eac3.specs.Answer.{placeAt, answerOf, numberOf, placeOf, countOf}
-use Rattle.eac3.specs.declared.answer.Answer.{Answer}
-use Rattle.eac3.specs.declared.answer.Frame.{Frame}
+use Rattle.answer.specs.Answer.{placeAt, answerOf, numberOf, placeOf, countOf}
+use Rattle.answer.specs.declared.Answer.{Answer}
+use Rattle.answer.specs.declared.Frame.{Frame}
 
 abbrev pub bitOf : Bool → ℕ
 bitOf true = 1

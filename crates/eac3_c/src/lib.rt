@@ -1,12 +1,12 @@
 // The reader for hosts outside: one C function over slices and numbers.
 ghost use mathlib.Core.Path.{_≡_};
 ghost use Rattle.reading.specs.Room.{room};
-ghost use Rattle.eac3.specs.Answer.{answered};
+ghost use Rattle.eac3.specs.Called.{answered};
 ghost use Rattle.eac3_c.specs.Numbers.{bitOf, frameNumbers, laid, Given};
-use eac3::answer::Frame;
-use eac3::answer::count_of;
-use eac3::answer::number_of;
-use eac3::answer::place_of;
+use answer::Frame;
+use answer::count_of;
+use answer::number_of;
+use answer::place_of;
 
 fn wide(x: u16) -> u64
     ensures { λ r. ⌜ r ≡ x ⌝ }

@@ -11,10 +11,10 @@ use Rattle.names.proofs.Rows.{spelling-short}
 use Rattle.print.specs.Text.{digits, decimalOf, signedOf, Added}
 use Rattle.print.proofs.Adding.{_then_, meant}
 use Rattle.print.proofs.Decimals.{few}
-use Rattle.eac3.specs.Answer.{countOf}
-use Rattle.eac3.specs.declared.answer.Frame.{Frame}
-use Rattle.eac3.specs.declared.answer.Verdict.{Verdict}
-use Rattle.eac3.specs.declared.answer.Verdict.the-variants.{Accepted, Refused}
+use Rattle.answer.specs.Answer.{countOf}
+use Rattle.answer.specs.declared.Frame.{Frame}
+use Rattle.answer.specs.declared.Verdict.{Verdict}
+use Rattle.answer.specs.declared.Verdict.the-variants.{Accepted, Refused}
 use Rattle.listing.specs.declared.Records.{Records}
 use Rattle.listing.specs.Listing.{word, last, threeLine, firstBy, firstLine, recordLine, lineOf, linesOf, listingOf}
 

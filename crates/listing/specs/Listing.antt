@@ -8,11 +8,12 @@ use Rattle.names.specs.Spelling.{bytes, spellingOf}
 use Rattle.print.specs.Text.{decimalOf, signedOf}
 use Rattle.reading.specs.Room.{Room, room, Out}
 use Rattle.cells.specs.Cells.{State}
-use Rattle.eac3.specs.Answer.{answered, answerOf, countOf}
-use Rattle.eac3.specs.declared.answer.Frame.{Frame}
-use Rattle.eac3.specs.declared.answer.Answer.{Answer}
-use Rattle.eac3.specs.declared.answer.Verdict.{Verdict}
-use Rattle.eac3.specs.declared.answer.Verdict.the-variants.{Accepted, Refused}
+use Rattle.answer.specs.Answer.{answerOf, countOf}
+use Rattle.eac3.specs.Called.{answered}
+use Rattle.answer.specs.declared.Frame.{Frame}
+use Rattle.answer.specs.declared.Answer.{Answer}
+use Rattle.answer.specs.declared.Verdict.{Verdict}
+use Rattle.answer.specs.declared.Verdict.the-variants.{Accepted, Refused}
 use Rattle.listing.specs.declared.Records.{Records}
 use Rattle.listing.specs.declared.Text.{Text}
 

@@ -13,8 +13,8 @@ use mir.Val.{Fits, SFits, toZ, ofZ}
 use mir.Facts.{toZ-ofZ, fits-below}
 use Rattle.print.proofs.Signs.{not-below}
 use Rattle.reading.specs.Room.{Room}
-use Rattle.eac3.specs.declared.answer.Frame.{Frame}
-use Rattle.eac3.specs.declared.answer.Verdict.{Verdict}
+use Rattle.answer.specs.declared.Frame.{Frame}
+use Rattle.answer.specs.declared.Verdict.{Verdict}
 use Rattle.eac3_c.specs.Numbers.{frameNumbers}
 use Rattle.replay.specs.Sums.{raisedOf, addedOf, sumOf}
 use Rattle.replay.specs.Cases.{verdictOf, keptOf, agreesOf, endsOf, sameBy}

@@ -4,9 +4,9 @@ use mathlib.Core.List.{List}
 use Prim.Native.Nat.{ℕ, zero, suc, _+_, _*_, min}
 use lib.Dec.{eqb}
 use lib.ListN.{getD}
-use Rattle.eac3.specs.declared.answer.Frame.{Frame}
-use Rattle.eac3.specs.declared.answer.Verdict.{Verdict}
-use Rattle.eac3.specs.declared.answer.Verdict.the-variants.{Accepted, Refused}
+use Rattle.answer.specs.declared.Frame.{Frame}
+use Rattle.answer.specs.declared.Verdict.{Verdict}
+use Rattle.answer.specs.declared.Verdict.the-variants.{Accepted, Refused}
 use Rattle.eac3_c.specs.Numbers.{frameNumbers}
 use Rattle.listing.specs.declared.Records.{Records}
 use Rattle.replay.specs.Sums.{sum, roomOf, sumOf}

@@ -6,7 +6,7 @@ ghost use lib.Dec.{eqb};
 ghost use Rattle.replay.specs.Cases.{kindOf, verdictOf, keptOf, agreesOf, endsOf, sameOf};
 use crate::sums::Sum;
 use crate::sums::summed;
-use eac3::answer::Verdict;
+use answer::Verdict;
 use eac3_c::numbers;
 use listing::Records;
 

@@ -10,9 +10,9 @@
 mod cases;
 mod sums;
 
+use answer::Answer;
+use answer::Verdict;
 use cases::same;
-use eac3::answer::Answer;
-use eac3::answer::Verdict;
 use libc::STDIN_FILENO;
 use listing::cases::input_pair;
 use listing::cases::length;

@@ -6,7 +6,7 @@ use native.Mathlib.Omega.{arith}
 use lib.ListN.{List·getD-eq-default}
 use Rattle.names.specs.Names.{acmod, numblkscod}
 use Rattle.names.specs.Spelling.{bytes}
-use Rattle.eac3.specs.Answer.{countOf}
+use Rattle.answer.specs.Answer.{countOf}
 use Rattle.listing.specs.declared.Records.{Records}
 use Rattle.strategies.specs.Strategies.{elementOf}
 use Rattle.strategies.specs.Table.{modes, namesOf, headingOf, cells, cellOf, rowsOf, blocksOf, channelsOf, tableOf}

@@ -6,9 +6,9 @@ use Rattle.names.specs.Names.{acmod, numblkscod}
 use Rattle.names.specs.Spelling.{bytes}
 use Rattle.tables.specs.Small.{nfchans}
 use Rattle.print.specs.Text.{decimalOf}
-use Rattle.eac3.specs.Answer.{countOf}
-use Rattle.eac3.specs.declared.answer.Verdict.{Verdict}
-use Rattle.eac3.specs.declared.answer.Verdict.the-variants.{Accepted, Refused}
+use Rattle.answer.specs.Answer.{countOf}
+use Rattle.answer.specs.declared.Verdict.{Verdict}
+use Rattle.answer.specs.declared.Verdict.the-variants.{Accepted, Refused}
 use Rattle.listing.specs.Listing.{firstLine}
 use Rattle.listing.specs.declared.Records.{Records}
 use Rattle.strategies.specs.Strategies.{channelOf, couplingOf, lfeOf, elementOf}

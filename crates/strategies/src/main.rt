@@ -8,7 +8,7 @@ ghost use Prim.Native.Nat.{_<_, _≤_};
 ghost use lib.ListN.{length};
 ghost use Rattle.print.specs.Text.{Added};
 ghost use Rattle.strategies.specs.Table.{namesOf, headingOf, cellOf, fullOf, labelOf, rowOf, rowsOf, blocksOf, channelsOf, tableOf, textOf};
-use eac3::answer::Verdict;
+use answer::Verdict;
 use listing::Records;
 use names::numbers;
 use print::put;

@@ -1,7 +1,7 @@
 -- By the callees.
 use mathlib.Core.Path.{ap, _∙_}
-use Rattle.eac3.specs.Answer.{numberOf}
-use Rattle.eac3.specs.declared.answer.Answer.{Answer}
+use Rattle.answer.specs.Answer.{numberOf}
+use Rattle.answer.specs.declared.Answer.{Answer}
 use Rattle.eac3_c.proofs.Laying.{laid-are}
 use borrow.Author.Needs.{needs}
 use Rattle.eac3_c.proofs.eac3_parse.Statement.{statement}

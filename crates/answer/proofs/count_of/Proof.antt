@@ -1,7 +1,7 @@
 use mathlib.Core.Path.{refl}
 use borrow.Author.Needs.{needs}
-use Rattle.eac3.proofs.answer.count_of.Statement.{statement}
-use Rattle.eac3.proofs.answer.count_of.Tie as tie
+use Rattle.answer.proofs.count_of.Statement.{statement}
+use Rattle.answer.proofs.count_of.Tie as tie
 
 returns : tie.Need-returns
 returns c = rw (c .enum-told .given .1) refl

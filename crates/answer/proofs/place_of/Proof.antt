@@ -1,8 +1,8 @@
 use Prim.Native.Nat.{_*_}
 use mathlib.Core.Path.{ap}
 use borrow.Author.Needs.{needs}
-use Rattle.eac3.proofs.answer.place_of.Statement.{statement}
-use Rattle.eac3.proofs.answer.place_of.Tie as tie
+use Rattle.answer.proofs.place_of.Statement.{statement}
+use Rattle.answer.proofs.place_of.Tie as tie
 
 returns : tie.Need-returns
 returns c = rw (c .before .enum-told .given .1) (ap (λ k. 8 * k) (c .wide .ensures .0))

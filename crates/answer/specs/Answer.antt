@@ -1,27 +1,20 @@
--- What the entry answers: the outcome of the frame's definition, with its records in the room.
-use mathlib.Core.Path.{_≡_}
+-- What a reading answers: an accepted frame, or one numbered refusal.
 use mathlib.Core.Bool.{false}
 use mathlib.Core.List.{List}
 use Prim.Native.Nat.{ℕ, _+_, _*_, _/_}
 use lib.ListN.{replicate}
-use Rattle.reading.specs.Frame.{parse}
 use Rattle.reading.specs.Run.{Result, accepted, refused}
-use Rattle.reading.specs.Room.{Room, size, cut, Out, into}
+use Rattle.reading.specs.Room.{Out}
 use Rattle.cells.specs.Cells.{State, cellOf}
 use Rattle.cells.specs.Names.{ACMOD, AHT-TAGS, AHTINU, AUDIO-END, BLOCK-STARTS, BSID, CPL-BLOCKS, FSCOD, LFEON, MANTISSA-STARTS, NUMBLKS, SPX-BLOCKS, STRMTYP, SUBSTREAMID}
 use Rattle.derivations.specs.Blocks.{flagOf}
 use Rattle.bits.specs.declared.BitPlace.{BitPlace}
 use Rattle.derivations.specs.Steps.{tabOf}
 use Rattle.derivations.specs.Shapes.{flagsOf}
-use Rattle.annex.specs.Frame.{eac3}
-use Rattle.eac3.specs.declared.answer.Frame.{Frame}
-use Rattle.eac3.specs.declared.answer.Answer.{Answer}
-use Rattle.eac3.specs.declared.answer.Verdict.{Verdict}
-use Rattle.eac3.specs.declared.answer.Verdict.the-variants.{Accepted, Refused}
-
--- a buffer read with a room for records: the definition's outcome, cut at the room
-abbrev pub answered : List ℕ → Room → Out State
-answered s m = into 0 m (cut (size m) (parse eac3 s))
+use Rattle.answer.specs.declared.Frame.{Frame}
+use Rattle.answer.specs.declared.Answer.{Answer}
+use Rattle.answer.specs.declared.Verdict.{Verdict}
+use Rattle.answer.specs.declared.Verdict.the-variants.{Accepted, Refused}
 
 -- a place in a frame, in bits from its first one; and n places, from the cell k on
 abbrev pub placeAt : ℕ → BitPlace
@@ -102,14 +95,7 @@ countBy (Refused k p n) f = n
 abbrev pub countOf : Answer → ℕ
 countOf a = countBy (a .verdict) (a .frame)
 
--- a call of the entry with a buffer and a room: the answer that it gives, with document 01's number, place and count, and the room then
+-- the number of a reading's result
 abbrev pub numberIn : Result State → ℕ
 numberIn (accepted st) = 0
 numberIn (refused k) = k
-
-pub record Called (s : List ℕ) (m : Room) (a : Answer) (m′ : Room) : Type 0 where
-  pub answer : a ≡ answerOf (answered s m)
-  pub number : numberOf a ≡ numberIn (answered s m .result)
-  pub place : (k : ℕ) → answered s m .result ≡ refused k → placeOf a ≡ answered s m .place
-  pub count : countOf a ≡ answered s m .count
-  pub left : m′ ≡ answered s m .left

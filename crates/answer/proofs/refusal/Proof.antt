@@ -1,7 +1,7 @@
 use mathlib.Core.Path.{refl}
 use borrow.Author.Needs.{needs}
-use Rattle.eac3.proofs.answer.refusal.Statement.{statement}
-use Rattle.eac3.proofs.answer.refusal.Tie as tie
+use Rattle.answer.proofs.refusal.Statement.{statement}
+use Rattle.answer.proofs.refusal.Tie as tie
 
 returns : tie.Need-returns
 returns c = rw (c .none .ensures) refl

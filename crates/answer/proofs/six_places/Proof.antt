@@ -1,8 +1,8 @@
 use Rattle.derivations.specs.Steps.{tabOf}
 use native.Mathlib.Nat.{add-zero}
 use borrow.Author.Needs.{needs}
-use Rattle.eac3.proofs.answer.six_places.Statement.{statement}
-use Rattle.eac3.proofs.answer.six_places.Tie as tie
+use Rattle.answer.proofs.six_places.Statement.{statement}
+use Rattle.answer.proofs.six_places.Tie as tie
 
 returns : tie.Need-returns
 unfolding tabOf

@@ -1,8 +1,8 @@
 // What the entry answers: an accepted frame, or one numbered refusal.
 ghost use mathlib.Core.Path.{_≡_};
 ghost use Prim.Native.Nat.{_≤_, _<_};
-ghost use Rattle.eac3.specs.Answer.{nothing, placesOf, frameOf, numberBy, placeBy, countBy};
-ghost use Rattle.eac3.specs.Parts.{refusalFrom, answerFrom};
+ghost use Rattle.answer.specs.Answer.{nothing, placesOf, frameOf, numberBy, placeBy, countBy};
+ghost use Rattle.answer.specs.Cursors.{refusalFrom, answerFrom};
 use bits::BitPlace;
 use bits::ByteCount;
 use cells::cell_of;

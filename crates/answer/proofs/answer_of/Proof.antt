@@ -1,7 +1,7 @@
 use mathlib.Core.Path.{refl}
 use borrow.Author.Needs.{needs}
-use Rattle.eac3.proofs.answer.answer_of.Statement.{statement}
-use Rattle.eac3.proofs.answer.answer_of.Tie as tie
+use Rattle.answer.proofs.answer_of.Statement.{statement}
+use Rattle.answer.proofs.answer_of.Tie as tie
 
 returns : tie.Need-returns
 returns c = rw (c .refusal .ensures, c .before .if1 .taken) refl

@@ -1,7 +1,7 @@
 use mathlib.Core.Path.{refl}
 use borrow.Author.Needs.{needs}
-use Rattle.eac3.proofs.answer.frame_of.Statement.{statement}
-use Rattle.eac3.proofs.answer.frame_of.Tie as tie
+use Rattle.answer.proofs.frame_of.Statement.{statement}
+use Rattle.answer.proofs.frame_of.Tie as tie
 
 returns : tie.Need-returns
 returns c = rw (c .before .before .before .before .before .before .before .before .before .before .before .before .before .before .bytes .ensures, c .before .before .before .before .before .before .before .before .before .before .before .before .before .cell-of .ensures, c .before .before .before .before .before .before .before .before .before .before .before .before .cell-of2 .ensures, c .before .before .before .before .before .before .before .before .before .before .before .flag .ensures, c .before .before .before .before .before .before .before .before .before .before .cell-of3 .ensures, c .before .before .before .before .before .before .before .before .before .cell-of4 .ensures, c .before .before .before .before .before .before .before .before .cell-of5 .ensures, c .before .before .before .before .before .before .before .cell-of6 .ensures, c .before .before .before .before .before .before .six-places .ensures, c .before .before .before .before .before .six-places2 .ensures, c .before .before .before .before .cell-of7 .ensures, c .before .before .before .cell-of8 .ensures, c .before .before .seven-flags .ensures, c .before .cell-of9 .ensures, c .cell-of10 .ensures) refl
