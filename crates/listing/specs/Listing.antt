@@ -1,40 +1,18 @@
--- A frame read with room for records, and the text that lists it (document 01, module 8).
+-- The text that lists a frame (document 01, module 8).
 use mathlib.Core.Path.{_≡_}
 use mathlib.Core.List.{List, [], _∷_, _++_}
 use Prim.Native.Nat.{ℕ, zero, suc, _≤_, min}
 use lib.IntN.{ℤ, pos}
-use lib.ListN.{length, getD, take, replicate}
+use lib.ListN.{length, getD, take}
 use Rattle.names.specs.Spelling.{bytes, spellingOf}
 use Rattle.print.specs.Text.{decimalOf, signedOf}
-use Rattle.reading.specs.Room.{Room, room, Out}
-use Rattle.cells.specs.Cells.{State}
-use Rattle.answer.specs.Answer.{answerOf, countOf}
-use Rattle.eac3.specs.Called.{answered}
+use Rattle.answer.specs.Answer.{countOf}
 use Rattle.answer.specs.declared.Frame.{Frame}
 use Rattle.answer.specs.declared.Answer.{Answer}
 use Rattle.answer.specs.declared.Verdict.{Verdict}
 use Rattle.answer.specs.declared.Verdict.the-variants.{Accepted, Refused}
 use Rattle.listing.specs.declared.Records.{Records}
 use Rattle.listing.specs.declared.Text.{Text}
-
--- n records, all 0
-abbrev pub empty : ℕ → Room
-empty n = room (replicate n 0) (replicate n (pos 0)) (replicate n (pos 0)) (replicate n 0) (replicate n 0) (replicate n 0)
-
--- a slice read with room for 2,048 records
-abbrev pub readOf : List ℕ → Out State
-readOf s = answered s (empty 2048)
-
--- an answer and its records are those of a slice
-pub record ReadFrom (src : List ℕ) (r : Records) : Type 0 where
-  pub answer : r .answer ≡ answerOf (readOf src)
-  pub left : room (r .names) (r .blocks) (r .indexes) (r .firsts) (r .widths) (r .values) ≡ readOf src .left
-
--- they are those of some slice, which no contract can name
-pub record Read (r : Records) : Type 0 where
-  pub src : List ℕ
-  pub short : length src ≤ 4096
-  pub «from» : ReadFrom src r
 
 -- a word with the blank after it, and the last word of a line
 abbrev pub word : List ℕ → List ℕ

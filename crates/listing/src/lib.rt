@@ -1,16 +1,13 @@
 // The answer and the records of a frame, as lines of text in a lent buffer.
-pub mod cases;
-
 ghost use mathlib.Core.Path.{_≡_};
 ghost use Prim.Native.Nat.{_≤_, min};
 ghost use lib.ListN.{length};
 ghost use Rattle.names.specs.Spelling.{rows};
 ghost use Rattle.print.specs.Text.{Added};
-ghost use Rattle.answer.specs.Answer.{countOf};
-ghost use Rattle.listing.specs.Listing.{ReadFrom, Read, Holds, threeLine, firstLine, recordLine, linesOf, listingOf};
+ghost use Rattle.listing.specs.Listing.{Holds, threeLine, firstLine, recordLine, linesOf, listingOf};
 use answer::Answer;
 use answer::Verdict;
-use libc::STDIN_FILENO;
+use answer::count_of;
 use print::number;
 use print::put;
 use print::signed;
@@ -25,47 +22,6 @@ pub struct Records {
     pub firsts: [u16; 2048],
     pub widths: [u16; 2048],
     pub values: [u32; 2048],
-}
-
-// Reads one frame with room for 2,048 records.
-pub fn records_of(src: &[u8]) -> Records
-    ensures { λ r. ⌜ ReadFrom (now (src .entry)) r ⌝ }
-{
-    let mut names: [u8; 2048] = [0; 2048];
-    let mut blocks: [i8; 2048] = [0; 2048];
-    let mut indexes: [i16; 2048] = [0; 2048];
-    let mut firsts: [u16; 2048] = [0; 2048];
-    let mut widths: [u16; 2048] = [0; 2048];
-    let mut values: [u32; 2048] = [0; 2048];
-    let answer = eac3::parse(
-        src,
-        &mut names,
-        &mut blocks,
-        &mut indexes,
-        &mut firsts,
-        &mut widths,
-        &mut values,
-    );
-    Records {
-        answer: answer,
-        names: names,
-        blocks: blocks,
-        indexes: indexes,
-        firsts: firsts,
-        widths: widths,
-        values: values,
-    }
-}
-
-// How many records an answer counts.
-pub fn count_of(answer: Answer) -> usize
-    ensures { λ r. ⌜ r ≡ countOf answer ⌝ }
-{
-    let verdict = answer.verdict;
-    match verdict {
-        Verdict::Accepted => answer.frame.fields,
-        Verdict::Refused(_, _, count) => count,
-    }
 }
 
 // Three numbers that end a line.
@@ -162,7 +118,9 @@ pub fn list(out: &mut [u8], r: Records) -> usize
 {
     let at = first_line(out, 0, r.answer);
     let table = names::table();
-    lines(&table, out, at, r, least(count_of(r.answer)))
+    let answer = r.answer;
+    let verdict = answer.verdict;
+    lines(&table, out, at, r, least(count_of(verdict, answer.frame)))
 }
 
 // A listing: the first bytes of a buffer that has room for the longest.
@@ -181,13 +139,4 @@ pub fn text_of(r: Records) -> Text
         bytes: bytes,
         size: size,
     }
-}
-
-// The frame on standard input: its first 4,096 bytes are read, what follows is ignored.
-pub fn input() -> Records
-    ensures { λ r. ⌜ Read r ⌝ }
-{
-    let mut bytes = io::buffer();
-    let n = io::read_full(STDIN_FILENO, &mut bytes);
-    records_of(&bytes[..n])
 }

@@ -9,8 +9,8 @@ use Rattle.listing.proofs.list.Tie as tie
 
 returns : tie.Need-returns
 returns c =
-    c .before .before .before .before .before .before .before .before .before .before .first-line .ensures
-    then meant (ap (linesOf (c .before .before .before .before .before .before .before .before .before .before .before .before .before .args .r)) (c .before .before .before .least .ensures ∙ ap (λ n. min n 2048) (c .before .before .before .before .count-of .ensures))) (c .before .before .lines .ensures)
+    c .before .before .before .before .before .before .before .before .before .before .before .first-line .ensures
+    then meant (ap (linesOf (c .before .before .before .before .before .before .before .before .before .before .before .before .before .before .args .r)) (c .before .before .before .least .ensures ∙ ap (λ n. min n 2048) (c .before .before .before .before .count-of .ensures))) (c .before .before .lines .ensures)
 
 pub list-spec : {M : Type 1} → statement M
 list-spec =
