@@ -39,7 +39,7 @@ signed-short (negsuc n) = let h = few 20 (suc n) in omega arith
 three-short : (a b c : ℕ) → length (threeLine a b c) ≤ 63
 three-short a b c = simp length-append (omega (arith, decimal-short a, decimal-short b, decimal-short c))
 
-first-short : (v : Verdict) (f : Frame) → length (firstBy v f) ≤ 128
+pub first-short : (v : Verdict) (f : Frame) → length (firstBy v f) ≤ 128
 unfolding firstBy bytes
 first-short Accepted f = rw (length-append (bytes "accepted ")) (omega (arith, three-short (f .bytes .0) (f .«audio_end» .0) (f .fields)))
 first-short (Refused number place count) f = rw (length-append (bytes "refused ")) (omega (arith, three-short number (place .0) count))

@@ -3,7 +3,7 @@ use mathlib.Core.Path.{_≡_}
 use mathlib.Core.List.{List, [], _∷_, _++_}
 use Prim.Native.Nat.{ℕ, zero, suc, _≤_, min}
 use lib.IntN.{ℤ, pos}
-use lib.ListN.{length, getD, take}
+use lib.ListN.{getD}
 use Rattle.names.specs.Spelling.{bytes, spellingOf}
 use Rattle.print.specs.Text.{decimalOf, signedOf}
 use Rattle.answer.specs.Answer.{countOf}
@@ -12,7 +12,6 @@ use Rattle.answer.specs.declared.Answer.{Answer}
 use Rattle.answer.specs.declared.Verdict.{Verdict}
 use Rattle.answer.specs.declared.Verdict.the-variants.{Accepted, Refused}
 use Rattle.listing.specs.declared.Records.{Records}
-use Rattle.listing.specs.declared.Text.{Text}
 
 -- a word with the blank after it, and the last word of a line
 abbrev pub word : List ℕ → List ℕ
@@ -51,8 +50,3 @@ linesOf r (suc n) = linesOf r n ++ lineOf r n
 -- the whole text: the answer, and a line for each record that it counts
 abbrev pub listingOf : Records → List ℕ
 listingOf r = firstLine (r .answer) ++ linesOf r (min (countOf (r .answer)) 2048)
-
--- the first bytes of a buffer are a text
-pub record Holds (t : Text) (bytes : List ℕ) : Type 0 where
-  pub within : t .size ≤ length (t .bytes)
-  pub text : take (t .size) (t .bytes) ≡ bytes

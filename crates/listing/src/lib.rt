@@ -3,8 +3,8 @@ ghost use mathlib.Core.Path.{_≡_};
 ghost use Prim.Native.Nat.{_≤_, min};
 ghost use lib.ListN.{length};
 ghost use Rattle.names.specs.Spelling.{rows};
-ghost use Rattle.print.specs.Text.{Added};
-ghost use Rattle.listing.specs.Listing.{Holds, threeLine, firstLine, recordLine, linesOf, listingOf};
+ghost use Rattle.print.specs.Text.{Added, Holds};
+ghost use Rattle.listing.specs.Listing.{threeLine, firstLine, recordLine, linesOf, listingOf};
 use answer::Answer;
 use answer::Verdict;
 use answer::count_of;
@@ -131,7 +131,7 @@ pub struct Text {
 
 // The answer and the records as text.
 pub fn text_of(r: Records) -> Text
-    ensures { λ t. ⌜ Holds t (listingOf r) ⌝ }
+    ensures { λ t. ⌜ Holds (t .bytes) (t .size) (listingOf r) ⌝ }
 {
     let mut bytes = [0; 262272];
     let size = list(&mut bytes, r);

@@ -7,7 +7,7 @@ use native.Mathlib.Decide.{decLe}
 use native.Mathlib.Numerals.{add-one}
 use lib.ListN.{length, take, getD, set, length-take}
 use lib.Seq.{paste, paste-suc, take-all, take-paste, length-paste, take-append-add}
-use Rattle.print.specs.Text.{Added}
+use Rattle.print.specs.Text.{Added, Holds}
 
 -- no more than there are
 pub take-least : (k : ℕ) (l : List ℕ) → take (min k (length l)) l ≡ take k l
@@ -82,8 +82,8 @@ nothing old at h = record {
 }
 
 -- a text that has room is there whole
-pub whole : {old new bytes : List ℕ} {size : ℕ} → Added old 0 bytes new size → length bytes ≤ length old → take size new ≡ bytes
-whole {old} {new} {bytes} p h = p .text ∙ take-all (length old) bytes h
+pub whole : {old new bytes : List ℕ} {size : ℕ} → Added old 0 bytes new size → length bytes ≤ length old → Holds new size bytes
+whole {old} {new} {bytes} p h = record { within = rw (p .same) (p .within); text = p .text ∙ take-all (length old) bytes h }
 
 -- one byte more is copied
 pub copied : (old out bytes : List ℕ) (from i : ℕ) → from + i < length old → i < length bytes → out ≡ paste old from bytes i

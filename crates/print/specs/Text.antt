@@ -26,3 +26,8 @@ pub record Added (old : List ℕ) (at : ℕ) (bytes new : List ℕ) (size : ℕ)
   pub same : length new ≡ length old
   pub within : size ≤ length old
   pub text : take size new ≡ take (length old) (take at old ++ bytes)
+
+-- the first `size` bytes of a buffer are a text
+pub record Holds (out : List ℕ) (size : ℕ) (bytes : List ℕ) : Type 0 where
+  pub within : size ≤ length out
+  pub text : take size out ≡ bytes

@@ -1,7 +1,6 @@
 // The exponent strategies of the frame on standard input, as a table.
 fn main() {
-    let r = input::input();
-    let mut out = [0u8; 1024];
-    let size = strategy_table::text(&mut out, r);
-    print::write(&out, size);
+    let text = strategy_table::text_of(input::input());
+    let bytes = text.bytes;
+    print::write(&bytes, text.size);
 }

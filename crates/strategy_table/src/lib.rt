@@ -6,7 +6,7 @@ mod grid;
 ghost use mathlib.Core.Path.{_≡_};
 ghost use Prim.Native.Nat.{_<_, _≤_};
 ghost use lib.ListN.{length};
-ghost use Rattle.print.specs.Text.{Added};
+ghost use Rattle.print.specs.Text.{Added, Holds};
 ghost use Rattle.strategy_table.specs.Table.{namesOf, headingOf, cellOf, fullOf, labelOf, rowOf, rowsOf, blocksOf, channelsOf, tableOf, textOf};
 use answer::Verdict;
 use answer::count_of;
@@ -130,7 +130,7 @@ fn table(out: &mut [u8], r: Records) -> usize
 }
 
 // The table, or the answer of a frame that is refused.
-pub fn text(out: &mut [u8], r: Records) -> usize
+fn answer_text(out: &mut [u8], r: Records) -> usize
     ensures { λ e. ⌜ Added (now (out .entry)) 0 (textOf r) (now (out .exit)) e ⌝ }
 {
     let answer = r.answer;
@@ -138,5 +138,23 @@ pub fn text(out: &mut [u8], r: Records) -> usize
     match verdict {
         Verdict::Accepted => table(out, r),
         Verdict::Refused(_, _, _) => listing::first_line(out, 0, answer),
+    }
+}
+
+// A table, or an answer: the first bytes of a buffer that has room for the longest.
+pub struct Text {
+    pub bytes: [u8; 1024],
+    pub size: usize,
+}
+
+// The table as text.
+pub fn text_of(r: Records) -> Text
+    ensures { λ t. ⌜ Holds (t .bytes) (t .size) (textOf r) ⌝ }
+{
+    let mut bytes = [0; 1024];
+    let size = answer_text(&mut bytes, r);
+    Text {
+        bytes: bytes,
+        size: size,
     }
 }

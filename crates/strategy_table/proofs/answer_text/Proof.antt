@@ -1,8 +1,8 @@
 -- By the verdict.
 use borrow.Author.Needs.{needs}
 use Rattle.strategy_table.specs.Table.{textBy}
-use Rattle.strategy_table.proofs.text.Statement.{statement}
-use Rattle.strategy_table.proofs.text.Tie as tie
+use Rattle.strategy_table.proofs.answer_text.Statement.{statement}
+use Rattle.strategy_table.proofs.answer_text.Tie as tie
 
 returns : tie.Need-returns
 unfolding textBy
@@ -12,7 +12,7 @@ returns-2 : tie.Need-returns-2
 unfolding textBy
 returns-2 c = rw (c .before .before .before .before .enum-told2 .given .1) (c .before .before .first-line .ensures)
 
-pub text-spec : {M : Type 1} → statement M
-text-spec =
+pub answer-text-spec : {M : Type 1} → statement M
+answer-text-spec =
     tie.close (tie.spec (λ c. search needs) (λ c κs. search needs) (λ c. search needs) (λ c κs. search needs)
     (λ c. search needs) returns (λ c. search needs) returns-2)
