@@ -113,7 +113,7 @@ fn least(count: usize) -> usize
 }
 
 // The answer on the first line, then a line for each record.
-pub fn list(out: &mut [u8], r: Records) -> usize
+fn list(out: &mut [u8], r: Records) -> usize
     ensures { λ e. ⌜ Added (now (out .entry)) 0 (listingOf r) (now (out .exit)) e ⌝ }
 {
     let at = first_line(out, 0, r.answer);
