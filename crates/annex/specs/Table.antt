@@ -1,7 +1,7 @@
 -- The rows of a table are those of Annex E: the header's, the body's and the tail's.
 use mathlib.Core.List.{List}
 use Prim.Native.Nat.{ℕ}
-use Rattle.walk.specs.Stands.{Stands, Table}
+use Rattle.rows.specs.Standing.{Stands, Table}
 use Rattle.annex.specs.Annex.{header, body}
 use Rattle.annex.specs.Tail.{tail}
 

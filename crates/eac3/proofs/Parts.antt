@@ -21,7 +21,7 @@ use Rattle.syntax.specs.declared.Cursor.{Cursor}
 use Rattle.names.specs.Names.{syncword}
 use Rattle.slots.specs.Held.{Bins}
 use Rattle.allocation.proofs.MemoLaws.{memo-fresh}
-use Rattle.rows.specs.Reads.{Right}
+use Rattle.inputs.specs.Reads.{Right}
 use Rattle.cells.specs.Cells.{State, state, Addr, Sum, cellOf, putIn, placeOf, partOf}
 use Rattle.cells.specs.Names.{AUXDATAE, BLOCK, FRAME-END, FRMSIZ}
 use Rattle.cells.proofs.Cells.{put-sized, cell-same, cell-other, cell-none}

@@ -11,7 +11,7 @@ use Rattle.syntax.specs.Records.{outcome, haltedAt}
 use Rattle.syntax.specs.Rooms.{Fills}
 use Rattle.syntax.specs.declared.Cursor.{Cursor}
 use Rattle.slots.specs.Held.{Bins}
-use Rattle.rows.specs.Reads.{Right}
+use Rattle.inputs.specs.Reads.{Right}
 use Rattle.cells.specs.Cells.{State, state, cellOf}
 use Rattle.cells.specs.Names.{FRMSIZ}
 use Rattle.rows.specs.Syntax.{meaning}

@@ -1,3 +1,2 @@
 pub mod Masks
 pub mod StepLaws
-pub mod Takes

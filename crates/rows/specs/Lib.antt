@@ -1,4 +1,4 @@
 pub mod Syntax
 pub mod Rows
 pub mod Steps
-pub mod Reads
+pub mod Standing

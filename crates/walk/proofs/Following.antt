@@ -19,8 +19,8 @@ use Rattle.derivations.specs.Derivations.{derived}
 use Rattle.rows.specs.Syntax.{holdsOf, Fixed, Held, Item, Block, element, elements, span, mantissas, exponents, when, each, reject, reject-at, put, fill, derive, end, _⨾_, _⧺_, turns, one, item, meaning}
 use Rattle.rows.specs.Rows.{Row, Elements, Span, Mantissas, Exponents, When, Each, Put, Fill, Do, maskOf, cellIn, maskable, isRelation, refusal, row, flat, rowsOf, size, plainIn, plain, rowOf, widthIn}
 use Rattle.rows.specs.Steps.{Move, runs, go, deals, loops, dealing, dealtOf, stepOf}
+use Rattle.rows.specs.Standing.{Stands, narrow, allNarrow}
 use Rattle.rows.proofs.Masks.{mask-holds, refusal-here, refusal-at}
-use Rattle.walk.specs.Stands.{Stands, narrow, allNarrow}
 use Rattle.walk.proofs.Blocks.{flat-append, size-append, meaning-append, plain-append, drop-flat}
 
 -- the test of the widths, at each row

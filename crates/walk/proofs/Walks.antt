@@ -23,9 +23,10 @@ use Rattle.slots.specs.Held.{Bins}
 use Rattle.rows.specs.Syntax.{Block, Item, element, elements, span, mantissas, exponents, when, each, reject, reject-at, put, fill, derive, end, _⨾_, countOf, turns, meaning}
 use Rattle.rows.specs.Rows.{flat, toIn, fromIn, counterIn, stopIn, skipOf, loopIn, rowOf}
 use Rattle.rows.specs.Steps.{Move, runs, go, deals, loops, dealing, dealtOf, stepOf, Dealt, oneIn, inputIn, setIn}
-use Rattle.rows.specs.Reads.{Right, Ready, Takes, Opens, Gathers}
+use Rattle.rows.specs.Standing.{Stands}
 use Rattle.rows.specs.declared.steps.Loop.{Loop}
-use Rattle.walk.specs.Stands.{Stands, Stand, Turned}
+use Rattle.inputs.specs.Reads.{Right, Ready, Takes, Opens, Gathers}
+use Rattle.walk.specs.Stands.{Stand, Turned}
 use Rattle.walk.proofs.Following.{narrow-at, narrow-width, one-turn, Follows, step-law}
 
 element-step : (w p : ℕ) (st : State) → w % 16 < 3 → stepOf (rowOf w) p st ≡ runs (turns (countOf (toIn w) (st .cells) - fromIn w) (fromIn w) (counterIn w) (oneIn w) st)

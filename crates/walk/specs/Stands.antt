@@ -1,10 +1,8 @@
--- Where the rows of a block stand in a table, and what a run of them is.
-use Prim.Native.Nat.{ℕ, _+_, _-_, _*_, _%_, _≤_}
-use mathlib.Core.Bool.{Bool, true, cond, _&&_}
-use mathlib.Core.List.{List, [], _∷_, map}
+-- What a run of rows asks, and what it is.
+use Prim.Native.Nat.{ℕ, _-_, _*_, _≤_}
+use mathlib.Core.List.{List}
 use mathlib.Core.Path.{_≡_}
-use lib.Dec.{leb, ltb}
-use lib.ListN.{length, drop}
+use lib.ListN.{length}
 use Rattle.reading.specs.Room.{Room, exec}
 use Rattle.syntax.specs.Records.{outcome}
 use Rattle.syntax.specs.Rooms.{Fills}
@@ -12,28 +10,8 @@ use Rattle.syntax.specs.declared.Cursor.{Cursor}
 use Rattle.slots.specs.Held.{Bins}
 use Rattle.cells.specs.Cells.{State}
 use Rattle.rows.specs.Syntax.{Block, turns, meaning}
-use Rattle.rows.specs.Rows.{flat, size, plain, rowOf, widthIn}
-use Rattle.rows.specs.Reads.{Right}
-
--- the rows of a block stand in a table from one place to another
-pub record Stands (t : List ℕ) (b : Block) (from to : ℕ) : Type 0 where
-  pub rows : drop from (map rowOf t) ≡ flat b (drop to (map rowOf t))
-  pub plain : plain b ≡ true
-  pub ends : from + size b ≡ to
-  pub room : to ≤ length (map rowOf t)
-
--- no element is wider than what one read gives
-abbrev pub narrow : ℕ → Bool
-narrow w = cond (ltb (w % 16) 3) (leb (widthIn w) 25) true
-
-unfoldable pub allNarrow : List ℕ → Bool
-allNarrow [] = true
-allNarrow (w ∷ t) = narrow w && allNarrow t
-
--- what the code asks of a table: no more than 1,023 rows, no element too wide
-pub record Table (t : List ℕ) : Type 0 where
-  pub sized : length t ≤ 1023
-  pub narrows : allNarrow t ≡ true
+use Rattle.rows.specs.Standing.{Stands, Table}
+use Rattle.inputs.specs.Reads.{Right}
 
 -- the rows of some block stand there, the frame ends within the data, exponents and allocations are right, and so many records fit into the room
 pub record Stand (s : List ℕ) (l : ℕ) (t : List ℕ) (b : Bins) (mem : List ℕ) (most : ℕ) (m : Room) (from to : ℕ) : Type 0 where

@@ -2,7 +2,7 @@ use mathlib.Core.Path.{refl}
 use native.Mathlib.Omega.{arith}
 use Rattle.rows.specs.Rows.{rowOf, flat, plain, keepIn, indexIn, counterIn, fromIn, toIn, atIn, valueIn, relationIn, withIn, stopIn, loopTo, maskOf, digits, allSmall}
 use Rattle.rows.specs.Syntax.{_⧺_, among}
-use Rattle.walk.specs.Stands.{allNarrow}
+use Rattle.rows.specs.Standing.{allNarrow}
 use Rattle.annex.specs.Syncinfo.{syncinfo}
 use Rattle.annex.specs.Bsi.{bsi, mixdef3, mixing-metadata, informational-metadata}
 use Rattle.annex.specs.Audfrm.{audfrm, flags, coupling, strategies, hybrid, offsets}

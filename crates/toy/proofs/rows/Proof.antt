@@ -2,7 +2,7 @@ use mathlib.Core.Path.{refl}
 use native.Mathlib.Omega.{arith}
 use Rattle.rows.specs.Rows.{rowOf, flat, plain, keepIn, indexIn, counterIn, fromIn, toIn, atIn, valueIn, relationIn, withIn, stopIn, loopTo, maskOf, digits, allSmall}
 use Rattle.rows.specs.Syntax.{_⧺_, among}
-use Rattle.walk.specs.Stands.{allNarrow}
+use Rattle.rows.specs.Standing.{allNarrow}
 use Rattle.toy.specs.Toy.{opening, strategies, sets, quantized, block, closing, frame}
 use Rattle.toy.proofs.rows.Statement.{statement}
 use Rattle.toy.proofs.rows.Tie as tie

@@ -16,8 +16,8 @@ use Rattle.walk.proofs.each.Kinds as each-kinds
 use Rattle.walk.proofs.+each.Lts-each as each-lts
 use Rattle.cells.proofs.put.Reads as put-reads
 use Rattle.derivations.proofs.derive.Reads as derive-reads
-use Rattle.rows.proofs.inputs.gather.Reads as gather-reads
-use Rattle.rows.proofs.inputs.take.Reads as take-reads
+use Rattle.inputs.proofs.gather.Reads as gather-reads
+use Rattle.inputs.proofs.take.Reads as take-reads
 use Rattle.rows.proofs.steps.deal.Reads as deal-reads
 use Rattle.rows.proofs.steps.holds.Reads as holds-reads
 use Rattle.rows.proofs.steps.last_of.Reads as last-of-reads

@@ -3,10 +3,10 @@ use mathlib.Core.Path.{_∙_}
 use mir.Facts.{toZ-ofZ}
 use mir.Syntax.{w8, w16}
 use Rattle.syntax.proofs.Rooms.{inside}
-use Rattle.rows.proofs.Takes.{keeps-missed, keeps-full, keeps-made}
+use Rattle.inputs.proofs.Takes.{keeps-missed, keeps-full, keeps-made}
 use borrow.Author.Needs.{needs}
-use Rattle.rows.proofs.inputs.keep.Statement.{statement}
-use Rattle.rows.proofs.inputs.keep.Tie as tie
+use Rattle.inputs.proofs.keep.Statement.{statement}
+use Rattle.inputs.proofs.keep.Tie as tie
 
 returns : tie.Need-returns
 returns c = keeps-missed _ _ _ _ _ (c .before .before .before .before .before .before .before .args .l) (c .before .if1 .taken) (c .halted .result) (c .halted .ensures)

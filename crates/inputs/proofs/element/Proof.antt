@@ -1,8 +1,8 @@
 use native.Mathlib.Omega.{arith}
-use Rattle.rows.proofs.Takes.{ends, bits-past, bits-found}
+use Rattle.inputs.proofs.Takes.{ends, bits-past, bits-found}
 use borrow.Author.Needs.{needs}
-use Rattle.rows.proofs.inputs.element.Statement.{statement}
-use Rattle.rows.proofs.inputs.element.Tie as tie
+use Rattle.inputs.proofs.element.Statement.{statement}
+use Rattle.inputs.proofs.element.Tie as tie
 
 returns : tie.Need-returns
 returns c = bits-past _ _ _ _ (c .before .before .past .ensures .0) _ (c .before .if1 .taken) _ (c .missed .ensures)

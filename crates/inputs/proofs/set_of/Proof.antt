@@ -2,10 +2,10 @@ use native.Mathlib.Omega.{arith}
 use mathlib.Core.Path.{_∙_}
 use mir.Facts.{toZ-ofZ}
 use mir.Syntax.{w8, w16}
-use Rattle.rows.proofs.Takes.{set-is}
+use Rattle.inputs.proofs.Takes.{set-is}
 use borrow.Author.Needs.{needs}
-use Rattle.rows.proofs.inputs.set_of.Statement.{statement}
-use Rattle.rows.proofs.inputs.set_of.Tie as tie
+use Rattle.inputs.proofs.set_of.Statement.{statement}
+use Rattle.inputs.proofs.set_of.Tie as tie
 
 returns : tie.Need-returns
 returns c = (

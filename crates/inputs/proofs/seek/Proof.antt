@@ -1,8 +1,8 @@
 use native.Mathlib.Omega.{arith}
-use Rattle.rows.proofs.Takes.{looks-bits, looks-span}
+use Rattle.inputs.proofs.Takes.{looks-bits, looks-span}
 use borrow.Author.Needs.{needs}
-use Rattle.rows.proofs.inputs.seek.Statement.{statement}
-use Rattle.rows.proofs.inputs.seek.Tie as tie
+use Rattle.inputs.proofs.seek.Statement.{statement}
+use Rattle.inputs.proofs.seek.Tie as tie
 
 element-requires : tie.Need-element-requires
 element-requires c κs = (omega (arith, c .before .before .before .pre .0 .narrow (c .before .if1 .taken), c .width-of .ensures), c .before .before .before .pre .0 .within)

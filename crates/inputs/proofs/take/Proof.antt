@@ -1,7 +1,7 @@
 use borrow.Author.Needs.{needs}
-use Rattle.rows.proofs.Takes.{takes}
-use Rattle.rows.proofs.inputs.take.Statement.{statement}
-use Rattle.rows.proofs.inputs.take.Tie as tie
+use Rattle.inputs.proofs.Takes.{takes}
+use Rattle.inputs.proofs.take.Statement.{statement}
+use Rattle.inputs.proofs.take.Tie as tie
 
 seek-requires : tie.Need-seek-requires
 seek-requires c κs = (c .before .before .before .before .before .before .pre .0 .wide, c .before .before .before .before .before .before .pre .1)

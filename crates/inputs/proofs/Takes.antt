@@ -32,11 +32,11 @@ use Rattle.cells.specs.Cells.{State, state, cellOf, putIn, placeOf, sumOf, stor
 use Rattle.cells.specs.Names.{ABSEXP, BLOCK}
 use Rattle.derivations.specs.Sets.{strategyOf, startOf, endOf, exponentsOf}
 use Rattle.derivations.specs.Shapes.{mantissasIn}
 use Rattle.rows.specs.Rows.{nameIn, widthIn, indexIn, keepIn, regionIn, slotIn}
 use Rattle.rows.specs.Steps.{inputIn, setIn}
-use Rattle.rows.specs.Reads.{Right, looked, bitsOf, passedOf, Skimmed, recorded, Keeps, Looks, Sees, Takes, Gathers, setBy}
-use Rattle.rows.specs.declared.inputs.Look.{Look}
-use Rattle.rows.specs.declared.inputs.Set.{Set}
+use Rattle.inputs.specs.Reads.{Right, looked, bitsOf, passedOf, Skimmed, recorded, Keeps, Looks, Sees, Takes, Gathers, setBy}
+use Rattle.inputs.specs.declared.Look.{Look}
+use Rattle.inputs.specs.declared.Set.{Set}
 
 -- bits that are passed over, and bits that are read
 module _ (l p d : ℕ) (b : Bool) (eb : b ≡ ltb l (p + d)) where

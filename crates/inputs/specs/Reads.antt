@@ -17,10 +17,10 @@ use Rattle.cells.specs.Cells.{State, state, cellOf, placeOf, sumOf, stored, sig
 use Rattle.cells.specs.Names.{ABSEXP, BLOCK}
 use Rattle.derivations.specs.Sets.{strategyOf, startOf, endOf}
 use Rattle.derivations.specs.Shapes.{mantissasIn}
 use Rattle.rows.specs.Rows.{nameIn, indexIn, keepIn, slotIn, widthIn}
 use Rattle.rows.specs.Steps.{inputIn, setIn}
-use Rattle.rows.specs.declared.inputs.Look.{Look}
-use Rattle.rows.specs.declared.inputs.Set.{Set}
+use Rattle.inputs.specs.declared.Look.{Look}
+use Rattle.inputs.specs.declared.Set.{Set}
 
 -- no element is too wide, and the frame ends within the data
 pub record Wide (s : List ℕ) (l w : ℕ) : Type 0 where

@@ -1,4 +1,4 @@
-// Input and output: bits are looked at, a record is made, a value is stored.
+// Rows that read: bits are looked at, a record is made, a value is stored.
 ghost use mathlib.Core.Path.{_≡_};
 ghost use mathlib.Core.List.{List};
 ghost use Prim.Native.Nat.{ℕ, _*_, _%_, _≤_, _<_};
@@ -8,14 +8,7 @@ ghost use Rattle.syntax.specs.Rooms.{Fills};
 ghost use Rattle.slots.specs.Held.{bins};
 ghost use Rattle.allocation.specs.Memo.{Tallies};
 ghost use Rattle.cells.specs.Cells.{state};
-ghost use Rattle.rows.specs.Reads.{Wide, Ready, looked, bitsOf, passedOf, Skimmed, Keeps, Sees, Takes, Opens, Gathers, setBy};
-use crate::fields::block_part;
-use crate::fields::index_of;
-use crate::fields::index_part;
-use crate::fields::keep_of;
-use crate::fields::name_of;
-use crate::fields::slot_of;
-use crate::fields::width_of;
+ghost use Rattle.inputs.specs.Reads.{Wide, Ready, looked, bitsOf, passedOf, Skimmed, Keeps, Sees, Takes, Opens, Gathers, setBy};
 use allocation::memo::stale;
 use bits::BitPlace;
 use bits::bits_at;
@@ -29,6 +22,13 @@ use derivations::sets::start_of;
 use derivations::sets::strategy_of;
 use derivations::shapes::mantissas_in;
 use exponents::set::read_exponents;
+use rows::fields::block_part;
+use rows::fields::index_of;
+use rows::fields::index_part;
+use rows::fields::keep_of;
+use rows::fields::name_of;
+use rows::fields::slot_of;
+use rows::fields::width_of;
 use syntax::Cursor;
 use syntax::going;
 use syntax::halted;

@@ -2,10 +2,10 @@ use native.Mathlib.Omega.{arith}
 use mathlib.Core.List.{[]}
 use Rattle.slots.specs.Held.{bins}
 use Rattle.cells.specs.Cells.{state}
-use Rattle.rows.proofs.Takes.{mantissas-ahead, mantissas-past, mantissas-found}
+use Rattle.inputs.proofs.Takes.{mantissas-ahead, mantissas-past, mantissas-found}
 use borrow.Author.Needs.{needs}
-use Rattle.rows.proofs.inputs.mantissas.Statement.{statement}
-use Rattle.rows.proofs.inputs.mantissas.Tie as tie
+use Rattle.inputs.proofs.mantissas.Statement.{statement}
+use Rattle.inputs.proofs.mantissas.Tie as tie
 
 mantissas-in-requires : tie.Need-mantissas-in-requires
 mantissas-in-requires c κs = (c .before .pre .0, c .before .pre .1)

@@ -1,7 +1,7 @@
-use Rattle.rows.proofs.Takes.{span-past, span-found}
+use Rattle.inputs.proofs.Takes.{span-past, span-found}
 use borrow.Author.Needs.{needs}
-use Rattle.rows.proofs.inputs.span.Statement.{statement}
-use Rattle.rows.proofs.inputs.span.Tie as tie
+use Rattle.inputs.proofs.span.Statement.{statement}
+use Rattle.inputs.proofs.span.Tie as tie
 
 returns : tie.Need-returns
 returns c = span-past _ _ _ _ (c .before .before .past .ensures .0) (c .before .if1 .taken) _ (c .missed .ensures)

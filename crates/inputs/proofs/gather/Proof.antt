@@ -1,7 +1,7 @@
 use borrow.Author.Needs.{needs}
-use Rattle.rows.proofs.Takes.{gathers-mantissas, gathers-set}
-use Rattle.rows.proofs.inputs.gather.Statement.{statement}
-use Rattle.rows.proofs.inputs.gather.Tie as tie
+use Rattle.inputs.proofs.Takes.{gathers-mantissas, gathers-set}
+use Rattle.inputs.proofs.gather.Statement.{statement}
+use Rattle.inputs.proofs.gather.Tie as tie
 
 mantissas-requires : tie.Need-mantissas-requires
 mantissas-requires c κs = (c .before .before .before .before .before .before .before .before .pre .right .memo .tallies, c .before .before .before .before .before .before .before .before .pre .within)
