@@ -4,8 +4,8 @@ use native.Mathlib.Omega.{arith}
 use lib.ListN.{drop, replicate, length-take, length-replicate}
 use lib.Seq.{drop-at, length-take-le}
 use borrow.Author.Needs.{needs}
-use Rattle.input.proofs.cases.slice.Statement.{statement}
-use Rattle.input.proofs.cases.slice.Tie as tie
+use Rattle.ingest.proofs.cases.slice.Statement.{statement}
+use Rattle.ingest.proofs.cases.slice.Tie as tie
 
 slice-aggregate-read-full : tie.Need-slice-aggregate-read-full
 slice-aggregate-read-full c = rw length-take (omega arith)

@@ -1,7 +1,7 @@
 // A frame and its records, from a slice or from standard input.
 pub mod cases;
 
-ghost use Rattle.input.specs.Input.{ReadFrom, Read};
+ghost use Rattle.ingest.specs.Ingest.{ReadFrom, Read};
 use libc::STDIN_FILENO;
 use listing::Records;
 

@@ -2,8 +2,8 @@
 use native.Mathlib.Omega.{arith}
 use lib.ListN.{take, length-take}
 use borrow.Author.Needs.{needs}
-use Rattle.input.proofs.input.Statement.{statement}
-use Rattle.input.proofs.input.Tie as tie
+use Rattle.ingest.proofs.input.Statement.{statement}
+use Rattle.ingest.proofs.input.Tie as tie
 
 returns : tie.Need-returns
 returns c = record { src = take (c .before .before .before .read-full .result) (c .before .before .before .read-full .last .1 .0); short = rw length-take (omega arith); «from» = c .records-of .ensures }
