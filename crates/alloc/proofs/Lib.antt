@@ -1,11 +1,6 @@
 pub mod Carry
 pub mod Codes
 pub mod Edges
-pub mod Excitation
 pub mod Lists
 pub mod LogSums
-pub mod Pointing
-pub mod Shifts
 pub mod Signs
-pub mod Sums
-pub mod Whole

@@ -83,7 +83,7 @@ pub extern "C" fn alloc_by_codes(
     ensures { λ r. ⌜ now (out .exit) ≡ allocationBy (now (exps .entry)) (now (segments .entry)) (now (codes .entry)) start end ⌝ }
 {
     if end <= start {
-        alloc::no_bins(out);
+        pointers::no_bins(out);
         return;
     }
     let latab = tables::log_add();
@@ -97,7 +97,7 @@ pub extern "C" fn alloc_by_codes(
     let l = leak_by(codes[11] == 1, codes[9], codes[10]);
     let d = deltas_of(codes[13], segments);
     let k = pointers_of(codes[12] == 1);
-    alloc::allocate(
+    pointers::allocate(
         &latab,
         &masktab,
         &ends,

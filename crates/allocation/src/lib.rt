@@ -335,7 +335,7 @@ fn renew(
     let d = deltas_in(s, slot);
     let a = 256 * (slot as usize);
     let e = a + 256;
-    let tally = alloc::allocate(
+    let tally = pointers::allocate(
         latab,
         masktab,
         ends,

@@ -1,0 +1,3 @@
+pub mod Excitation
+pub mod Shifts
+pub mod Sums
