@@ -16,8 +16,8 @@ use Rattle.rows.specs.Syntax.{among}
 use Rattle.cells.specs.Cells.{State}
 use Rattle.annex.specs.Frame.{announcedBy, eac3}
 use Rattle.annex.proofs.Header.{tells}
-use Rattle.facts.specs.Outcomes.{refusals, Numbered}
-use Rattle.facts.proofs.Outcomes.{all-keep}
+use Rattle.outcomes.specs.Outcomes.{refusals, Numbered}
+use Rattle.outcomes.proofs.Outcomes.{all-keep}
 use Rattle.answer.specs.Answer.{answerBy, numberOf, placeOf}
 use Rattle.demands.specs.Calls.{count}
 use Rattle.demands.specs.Answers.{numbers, Kept, AllAnswer}

@@ -16,8 +16,8 @@ use Rattle.reading.specs.CommonReading.{Case, Stand, Excepted, SameSpans, list}
 use Rattle.rows.specs.Syntax.{among}
 use Rattle.annex.specs.Frame.{eac3}
 use Rattle.annex.proofs.Header.{eac3-common-reading}
-use Rattle.facts.specs.Outcomes.{spanNames, Named}
-use Rattle.facts.proofs.Outcomes.{all-keep}
+use Rattle.outcomes.specs.Outcomes.{spanNames, Named}
+use Rattle.outcomes.proofs.Outcomes.{all-keep}
 use Rattle.demands.specs.Calls.{Call, count, nth, Accepts}
 use Rattle.demands.specs.Common.{Pair, Stands, SameSpanBits, CommonReading}
 use Rattle.demands.proofs.Calls.{outcome, accepts, refuses, counts, holds, held}

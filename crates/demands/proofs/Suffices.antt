@@ -11,9 +11,9 @@ use Rattle.reading.specs.Room.{Room, size, into}
 use Rattle.rows.specs.Syntax.{among}
 use Rattle.cells.specs.Cells.{State}
 use Rattle.annex.specs.Frame.{eac3}
-use Rattle.facts.specs.Outcomes.{refusals, Numbered}
-use Rattle.facts.specs.Suffices.{enough}
-use Rattle.facts.proofs.Room.{not-33, enough-room}
+use Rattle.outcomes.specs.Outcomes.{refusals, Numbered}
+use Rattle.outcomes.specs.Suffices.{enough}
+use Rattle.outcomes.proofs.Room.{not-33, enough-room}
 use Rattle.answer.specs.Answer.{answerBy, answerOf, numberOf}
 use Rattle.eac3.specs.Called.{answered}
 use Rattle.answer.specs.declared.Answer.{Answer}

@@ -10,7 +10,7 @@ use Rattle.reading.specs.Run.{end}
 use Rattle.reading.specs.CommonReading.{FirstDiffer, Holds, Excepted, Bytes}
 use Rattle.rows.specs.Syntax.{among}
 use Rattle.annex.specs.Frame.{announcedBy, eac3}
-use Rattle.facts.specs.Outcomes.{spanNames}
+use Rattle.outcomes.specs.Outcomes.{spanNames}
 use Rattle.demands.specs.Calls.{Call, count, nth, Accepts, Refuses}
 
 -- two buffers that both hold the frames that they announce, and first differ at d, inside the first one's frame
@@ -25,7 +25,7 @@ pub record Pair (x y : List ℕ) (d : ℕ) : Type 0 where
 abbrev pub Stands : (x : List ℕ) (d : ℕ) {y z : List ℕ} → Call y → Call z → Type 0
 Stands x d f g = (i : ℕ) → i < count f → end (nth f i) ≤ d → ((i < count g) × (nth g i ≡ nth f i)) ⊎ Excepted eac3 x d (nth f i)
 
--- the bits of each record with the name of a span are the same in both buffers. Every span has such a name (facts/specs/Outcomes.antt). mixdata also names
+-- the bits of each record with the name of a span are the same in both buffers. Every span has such a name (outcomes/specs/Outcomes.antt). mixdata also names
 -- an element, whose bits are then asked for too: the premise is a little stronger than it need be, and a caller can check it in his slices
 abbrev pub SameSpanBits : (x y : List ℕ) → Call x → Type 0
 SameSpanBits x y f = (i : ℕ) → i < count f → among spanNames (nth f i .name) ≡ true → SameBits x y (nth f i .first) (end (nth f i))

@@ -3,7 +3,7 @@ use mathlib.Core.Path.{_≡_}
 use mathlib.Core.List.{List}
 use Prim.Native.Nat.{ℕ, _≤_}
 use Rattle.reading.specs.Room.{Room, size}
-use Rattle.facts.specs.Suffices.{enough}
+use Rattle.outcomes.specs.Suffices.{enough}
 use Rattle.answer.specs.Answer.{numberOf}
 use Rattle.eac3.specs.Called.{Called}
 use Rattle.answer.specs.declared.Answer.{Answer}

@@ -1,0 +1,9 @@
+pub mod Cells
+pub mod Tags
+pub mod Walking
+pub mod Bounds
+pub mod Derived
+pub mod Fits
+pub mod Bounded
+pub mod Reaches
+pub mod Alongs

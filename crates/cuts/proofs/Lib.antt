@@ -1,0 +1,3 @@
+pub mod Unwrapped
+pub mod Differences
+pub mod Unclamped

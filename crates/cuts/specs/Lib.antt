@@ -1,0 +1,2 @@
+pub mod Unwrapped
+pub mod Unclamped

@@ -1,0 +1,9 @@
+pub mod Leaves
+pub mod Ranges
+pub mod Exponents
+pub mod Bandwidth
+pub mod Uses
+pub mod Sent
+pub mod Unmet
+pub mod Pointed
+pub mod Visited
