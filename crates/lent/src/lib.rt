@@ -6,6 +6,7 @@ use bits::BitPlace;
 use syntax::Cursor;
 use syntax::Taken;
 ghost use mathlib.Core.Path.{_≡_};
+ghost use mathlib.Core.Bool.{true};
 ghost use Prim.Native.Nat.{_*_, _≤_};
 ghost use lib.ListN.{length};
 ghost use Rattle.reading.specs.Room.{room};
@@ -33,7 +34,7 @@ pub fn over<'a>(src: &'a [u8], at: BitPlace) -> Reader<'a>
 
 pub fn raw_at(src: &[u8], at: BitPlace, limit: BitPlace, width: u16) -> Taken
     requires { ⌜ (width ≤ 32) × (limit .0 ≤ 8 * length (now src)) ⌝ }
-    ensures { λ t. ⌜ seen (t .cursor) (t .value) ≡ rawOf (now (src .entry)) (limit .0) width (at .0) ⌝ }
+    ensures { λ t. ⌜ (seen (t .cursor) (t .value) ≡ rawOf (now (src .entry)) (limit .0) width (at .0)) × (t .cursor .stopped ≡ true → t .value ≡ 0) ⌝ }
 {
     syntax::raw(src, syntax::going(at, 0), limit, width)
 }
@@ -41,7 +42,7 @@ pub fn raw_at(src: &[u8], at: BitPlace, limit: BitPlace, width: u16) -> Taken
 // `width` bits inside a span: read, not recorded. 8 where they pass the limit.
 pub fn raw<'a>(r: Reader<'a>, limit: BitPlace, width: u16) -> Taken
     requires { ⌜ (width ≤ 32) × (limit .0 ≤ 8 * length (now (r .src))) ⌝ }
-    ensures { λ t. ⌜ seen (t .cursor) (t .value) ≡ rawOf (now (r .entry .src)) (limit .0) width (r .entry .at .0) ⌝ }
+    ensures { λ t. ⌜ (seen (t .cursor) (t .value) ≡ rawOf (now (r .entry .src)) (limit .0) width (r .entry .at .0)) × (t .cursor .stopped ≡ true → t .value ≡ 0) ⌝ }
 {
     raw_at(r.src, r.at, limit, width)
 }
@@ -61,8 +62,9 @@ pub fn read_at(
     width: u16,
 ) -> Taken
     requires { ⌜ (width ≤ 32) × (limit .0 ≤ 8 * length (now src)) ⌝ }
-    ensures { λ t. ⌜ outcome (t .cursor) (t .value) (room (now (names .exit)) (now (blocks .exit)) (now (indexes .exit)) (now (firsts .exit)) (now (widths .exit)) (now (values .exit)))
-        ≡ readOf (now (src .entry)) (limit .0) (partOf label) width (at .0) count (room (now (names .entry)) (now (blocks .entry)) (now (indexes .entry)) (now (firsts .entry)) (now (widths .entry)) (now (values .entry))) ⌝ }
+    ensures { λ t. ⌜ (outcome (t .cursor) (t .value) (room (now (names .exit)) (now (blocks .exit)) (now (indexes .exit)) (now (firsts .exit)) (now (widths .exit)) (now (values .exit)))
+        ≡ readOf (now (src .entry)) (limit .0) (partOf label) width (at .0) count (room (now (names .entry)) (now (blocks .entry)) (now (indexes .entry)) (now (firsts .entry)) (now (widths .entry)) (now (values .entry))))
+        × (t .cursor .stopped ≡ true → t .value ≡ 0) ⌝ }
 {
     let cur = syntax::going(at, count);
     syntax::read(
@@ -97,8 +99,9 @@ pub fn read<'a>(
     width: u16,
 ) -> Taken
     requires { ⌜ (width ≤ 32) × (limit .0 ≤ 8 * length (now (r .src))) ⌝ }
-    ensures { λ t. ⌜ outcome (t .cursor) (t .value) (room (now (names .exit)) (now (blocks .exit)) (now (indexes .exit)) (now (firsts .exit)) (now (widths .exit)) (now (values .exit)))
-        ≡ readOf (now (r .entry .src)) (limit .0) (partOf label) width (r .entry .at .0) count (room (now (names .entry)) (now (blocks .entry)) (now (indexes .entry)) (now (firsts .entry)) (now (widths .entry)) (now (values .entry))) ⌝ }
+    ensures { λ t. ⌜ (outcome (t .cursor) (t .value) (room (now (names .exit)) (now (blocks .exit)) (now (indexes .exit)) (now (firsts .exit)) (now (widths .exit)) (now (values .exit)))
+        ≡ readOf (now (r .entry .src)) (limit .0) (partOf label) width (r .entry .at .0) count (room (now (names .entry)) (now (blocks .entry)) (now (indexes .entry)) (now (firsts .entry)) (now (widths .entry)) (now (values .entry))))
+        × (t .cursor .stopped ≡ true → t .value ≡ 0) ⌝ }
 {
     read_at(
         r.src,
@@ -264,8 +267,9 @@ pub fn element(
     width: u16,
 ) -> Taken
     requires { ⌜ (width ≤ 32) × (limit .0 ≤ 8 * length (now src)) ⌝ }
-    ensures { λ t. ⌜ outcome (t .cursor) (t .value) (room (now (names .exit)) (now (blocks .exit)) (now (indexes .exit)) (now (firsts .exit)) (now (widths .exit)) (now (values .exit)))
-        ≡ readOf (now (src .entry)) (limit .0) (partOf label) width (at .0) count (room (now (names .entry)) (now (blocks .entry)) (now (indexes .entry)) (now (firsts .entry)) (now (widths .entry)) (now (values .entry))) ⌝ }
+    ensures { λ t. ⌜ (outcome (t .cursor) (t .value) (room (now (names .exit)) (now (blocks .exit)) (now (indexes .exit)) (now (firsts .exit)) (now (widths .exit)) (now (values .exit)))
+        ≡ readOf (now (src .entry)) (limit .0) (partOf label) width (at .0) count (room (now (names .entry)) (now (blocks .entry)) (now (indexes .entry)) (now (firsts .entry)) (now (widths .entry)) (now (values .entry))))
+        × (t .cursor .stopped ≡ true → t .value ≡ 0) ⌝ }
 {
     read(
         Reader { src, at },

@@ -139,6 +139,14 @@ module _ (baps : List ℕ) (shape : Shape) (s : List ℕ) (l n ch : ℕ) (got : 
       last (yes h) = onward-on v (λ a. stop (a .tags ∷ [])) s l h ∙ skim-stop s (v .place .0) l _ ∙ rw (eq-eqb (v .number) 0 h)
       last (no h) = onward-off v (λ a. stop (a .tags ∷ [])) s l h ∙ rw (ne-eqb (v .number) 0 h)
 
+-- the tags, told as 0 after a refusal
+pub tags-told : (n p tags u : ℕ) → u ≡ cond (eqb n 0) tags 0 → (o : Outcome (List ℕ)) → outcome n (tags ∷ []) p ≡ o → (outcome n (u ∷ []) p ≡ o) × (¬ (n ≡ 0) → u ≡ 0)
+tags-told n p tags u e o q = (go (ℕ-discrete n 0) ∙ q, λ h. rw (ne-eqb n 0 h) at e)
+  where
+    go : Dec (n ≡ 0) → outcome n (u ∷ []) p ≡ outcome n (tags ∷ []) p
+    go (yes h) = let z : u ≡ tags = rw (eq-eqb n 0 h) at e in rw z refl
+    go (no h) = rw (ne-eqb n 0 h) refl
+
 -- the whole, from its start
 pub slots-all : (baps : List ℕ) (shape : Shape) (s : List ℕ) (l p n : ℕ) → n ≡ min (shape .nfchans) 5
     → onward (record { number = 0; place = record { 0 = p }; tags = 0; groups = record { g1 = 0; g2 = 0; g4 = 0 } }) (slotsOf baps shape 0 n false) s l ≡ skim (mantissasOf baps shape) s p l

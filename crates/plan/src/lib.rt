@@ -15,6 +15,7 @@ ghost use mathlib.Core.Path.{_≡_};
 ghost use mathlib.Core.Bool.{cond, _&&_, _||_, not, false};
 ghost use mathlib.Core.List.{[]};
 ghost use Prim.Native.Nat.{_+_, _*_, _<_, _≤_, min};
+ghost use lib.Dec.{eqb};
 ghost use lib.ListN.{length, getD};
 ghost use Rattle.reading.specs.Run.{skim, out};
 ghost use Rattle.allocation.specs.Memo.{Tallies};
@@ -30,7 +31,7 @@ pub struct Taking {
     pub groups: Groups,
 }
 
-// A refusal number, or 0; the place; and the tags counted.
+// A refusal number, or 0; the place; and the tags counted, 0 after a refusal.
 pub struct Taken {
     pub number: u8,
     pub place: BitPlace,
@@ -128,6 +129,13 @@ fn either(a: bool, b: bool) -> bool
     a || b
 }
 
+// The tags that are told: 0 after a refusal.
+fn told(number: u8, tags: u16) -> u16
+    ensures { λ r. ⌜ r ≡ cond (eqb number 0) tags 0 ⌝ }
+{
+    if number == 0 { tags } else { 0 }
+}
+
 // The mantissas of a block: its channels, the coupling channel after the first coupled one, the LFE
 // channel last. Refusal 8 at the first bit of what would pass `limit`, 13 for a composite gain above 26.
 pub fn mantissas(
@@ -139,7 +147,7 @@ pub fn mantissas(
     limit: BitPlace,
 ) -> Taken
     requires { ⌜ (Tallies (now memo) (now baps)) × (limit .0 ≤ 8 * length (now src)) ⌝ }
-    ensures { λ r. ⌜ taken r ≡ skim (mantissasOf (now (baps .entry)) shape) (now (src .entry)) (at .0) (limit .0) ⌝ }
+    ensures { λ r. ⌜ (taken r ≡ skim (mantissasOf (now (baps .entry)) shape) (now (src .entry)) (at .0) (limit .0)) × (¬ (r .number ≡ 0) → r .tags ≡ 0) ⌝ }
 {
     let n = least(shape.nfchans as u16, 5);
     let mut t = Taking {
@@ -167,6 +175,6 @@ pub fn mantissas(
     Taken {
         number: t.number,
         place: place,
-        tags: t.tags,
+        tags: told(t.number, t.tags),
     }
 }

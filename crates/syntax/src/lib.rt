@@ -3,6 +3,7 @@
 use bits::BitPlace;
 use bits::past;
 ghost use mathlib.Core.Path.{_≡_};
+ghost use mathlib.Core.Bool.{true, cond};
 ghost use mathlib.Core.List.{List};
 ghost use Prim.Native.Nat.{ℕ, _+_, _-_, _*_, _≤_, min};
 ghost use lib.ListN.{length};
@@ -18,7 +19,7 @@ pub struct Cursor {
     pub number: u8,
 }
 
-// A cursor and the value that was read, which means nothing where the cursor is stopped.
+// A cursor and the value that was read, 0 where the cursor is stopped.
 pub struct Taken {
     pub cursor: Cursor,
     pub value: u32,
@@ -142,6 +143,13 @@ pub fn keep(
     going(next, n)
 }
 
+// The value that a read gives: 0 where it was stopped.
+fn given(stopped: bool, value: u32) -> u32
+    ensures { λ r. ⌜ r ≡ cond stopped 0 value ⌝ }
+{
+    if stopped { 0 } else { value }
+}
+
 // An element of `width` bits: read and recorded. 8 where it passes the limit, then 33 where there is no room.
 pub fn read(
     src: &[u8],
@@ -159,8 +167,9 @@ pub fn read(
     width: u16,
 ) -> Taken
     requires { ⌜ (width ≤ 32) × (limit .0 ≤ 8 * length (now src)) ⌝ }
-    ensures { λ r. ⌜ outcome (r .cursor) (r .value) (room (now (names .exit)) (now (blocks .exit)) (now (indexes .exit)) (now (firsts .exit)) (now (widths .exit)) (now (values .exit)))
-        ≡ readOf (now (src .entry)) (limit .0) (part name block index) width (cur .at .0) (cur .count) (room (now (names .entry)) (now (blocks .entry)) (now (indexes .entry)) (now (firsts .entry)) (now (widths .entry)) (now (values .entry))) ⌝ }
+    ensures { λ r. ⌜ (outcome (r .cursor) (r .value) (room (now (names .exit)) (now (blocks .exit)) (now (indexes .exit)) (now (firsts .exit)) (now (widths .exit)) (now (values .exit)))
+        ≡ readOf (now (src .entry)) (limit .0) (part name block index) width (cur .at .0) (cur .count) (room (now (names .entry)) (now (blocks .entry)) (now (indexes .entry)) (now (firsts .entry)) (now (widths .entry)) (now (values .entry))))
+        × (r .cursor .stopped ≡ true → r .value ≡ 0) ⌝ }
 {
     let at = cur.at;
     let count = cur.count;
@@ -190,7 +199,7 @@ pub fn read(
     );
     Taken {
         cursor: c,
-        value: value,
+        value: given(c.stopped, value),
     }
 }
 
@@ -239,7 +248,7 @@ pub fn span(
 // `width` bits inside a span: read, not recorded. 8 where they pass the limit.
 pub fn raw(src: &[u8], cur: Cursor, limit: BitPlace, width: u16) -> Taken
     requires { ⌜ (width ≤ 32) × (limit .0 ≤ 8 * length (now src)) ⌝ }
-    ensures { λ r. ⌜ (seen (r .cursor) (r .value) ≡ rawOf (now (src .entry)) (limit .0) width (cur .at .0)) × (r .cursor .count ≡ cur .count) ⌝ }
+    ensures { λ r. ⌜ (seen (r .cursor) (r .value) ≡ rawOf (now (src .entry)) (limit .0) width (cur .at .0)) × (r .cursor .count ≡ cur .count) × (r .cursor .stopped ≡ true → r .value ≡ 0) ⌝ }
 {
     let at = cur.at;
     let count = cur.count;

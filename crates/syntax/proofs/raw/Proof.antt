@@ -5,7 +5,7 @@ use Rattle.syntax.proofs.raw.Statement.{statement}
 use Rattle.syntax.proofs.raw.Tie as tie
 
 returns : tie.Need-returns
-returns c = raw-past _ _ _ _ _ _ (c .before .before .past .ensures .0) _ (c .before .if1 .taken) (c .halted .ensures) _
+returns c = raw-past _ _ _ _ _ _ (c .before .before .past .ensures .0) _ (c .before .if1 .taken) (c .halted .ensures)
 
 add-t11 : tie.Need-add-t11
 add-t11 c = record { fits = c .before .before .before .past .ensures .1 (c .before .before .if1 .left) }

@@ -5,7 +5,7 @@ use Rattle.syntax.proofs.span.Statement.{statement}
 use Rattle.syntax.proofs.span.Tie as tie
 
 returns : tie.Need-returns
-returns c = λ s. span-past s _ _ _ _ _ (c .before .before .past .ensures .0) _ (c .before .if1 .taken) (c .halted .ensures) _ _ _
+returns c = λ s. span-past s _ _ _ _ _ (c .before .before .past .ensures .0) _ (c .before .if1 .taken) (c .halted .ensures) _ _
 
 add-t17 : tie.Need-add-t17
 add-t17 c = record { fits = c .before .before .past .ensures .1 (c .before .if1 .left) }

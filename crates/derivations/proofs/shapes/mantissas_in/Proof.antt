@@ -6,7 +6,7 @@ use Rattle.derivations.proofs.shapes.mantissas_in.Tie as tie
 
 returns : tie.Need-returns
 unfolding mantissasIn
-returns c = λ e. c .mantissas .ensures ∙ rw (c .before .shape-of .ensures)
+returns c = λ e. c .mantissas .ensures .0 ∙ rw (c .before .shape-of .ensures)
 
 pub mantissas-in-spec : {M : Type 1} → statement M
 mantissas-in-spec = tie.close (tie.spec (λ c κs. search needs) (λ c κs. search needs) returns)
