@@ -2,7 +2,8 @@
 -- Clauses are cited by TS 102 366 V1.4.1 and by A/52, where E.1.2.x is E2.2.x, E.1.3.x is E2.3.x and E.2.x is E3.x.
 -- Who reads the pages may forget that cells are 1,024 numbers of 16 bits and that derivations cut what they take to its width: along every reading no item's
 -- value and no sum or product of a derivation wraps (cuts/specs/Unwrapped), and addresses, parts of records, slots, codes and ends lie where they are cut to
--- (cuts/specs/Unclamped, unmet/specs/Unmet). Not stated: addresses inside derivations, look-ups past a table's end, and the rows of the tail.
+-- (cuts/specs/Unclamped, unmet/specs/Unmet). Inside a derivation an address is a cell's number and an index, a channel, a block, a slot or a sub-band, and a table
+-- is looked up by a code: their bounds are among those (and bounds/specs/Bounds). The tail is defined on numbers, without cells.
 use Rattle.cells.specs.Names.{AUDIO-END, BLK, BLOCK, NUMBLKS}
 use Rattle.rows.specs.Syntax.{Here, Block, end, _⨾_, _⧺_, each, put, cell, from, upto, number}
 use Rattle.annex.specs.Syncinfo.{syncinfo}
