@@ -16,11 +16,11 @@ use Rattle.alloc.specs.Allocation.{snroffset, sum, bndpsd, counter, deltaed}
 use Rattle.allocation.specs.State.{freshState, segmentsOf, offsetsZero, silentOf, channelOf, leakFor, kindOf, pointedOf, allocatedOf, pointSlots, pointSlot, pointersOf}
 use Rattle.mantissas.specs.Mantissas.{widthOf, countedOf, conventionalOf}
 use Rattle.hybrid.specs.Hybrid.{activeOf, activeIn, singlesOf, triplesOf, gainsOf, premantissaOf, premantissasOf, binOf, binsOf, ahtOf}
-use Rattle.derivations.specs.Steps.{sumOf, eachOf, tabOf}
-use Rattle.derivations.specs.Frames.{numblksBy, nfchansBy, ncplblksBy, cplStrategiesBy, chStrategiesBy, regionsBy, blkstrtinfoBy}
-use Rattle.derivations.specs.Blocks.{spxRangeBy, nspxbndsBy, cplRangeBy, ncplbndBy, nrematbdBy, cplBinsBy, endmantOf, unknownOf, unknownIn, endmantsBy, ahtReadBy}
+use Rattle.sideinfo.specs.Steps.{sumOf, eachOf, tabOf}
+use Rattle.sideinfo.specs.Frames.{numblksBy, nfchansBy, ncplblksBy, cplStrategiesBy, chStrategiesBy, regionsBy, blkstrtinfoBy}
+use Rattle.sideinfo.specs.Blocks.{spxRangeBy, nspxbndsBy, cplRangeBy, ncplbndBy, nrematbdBy, cplBinsBy, endmantOf, unknownOf, unknownIn, endmantsBy, ahtReadBy}
 use Rattle.derivations.specs.Sets.{strategyOf, startOf as startOf-derivations, endOf, exponentsOf}
-use Rattle.derivations.specs.Shapes.{mantissasIn}
+use Rattle.derivations.specs.Mantissas.{mantissasIn}
 use Rattle.derivations.specs.Allocating.{putState, freshBy, defaultsBy, allocateIn}
 use Rattle.derivations.specs.Derivations.{endmantsIn, derived}
 use Rattle.annex.specs.Syncinfo.{syncinfo}

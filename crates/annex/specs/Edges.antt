@@ -10,7 +10,7 @@ use Rattle.alloc.specs.Allocation.{snroffset}
 use Rattle.slots.specs.Held.{bins}
 use Rattle.cells.specs.Cells.{State, state, cellOf, putIn}
 use Rattle.cells.specs.Names.{CHEXPSTR, CPL-SUBND-END, CPLEND, CPLINUS, CPLSTRE, CPLSTRT, ENDMANT, FRMSIZ, NCPLSUBND, NFCHANS, NUMBLKS, SPXINU, WIDTH}
-use Rattle.derivations.specs.Frames.{blkstrtinfoBy}
+use Rattle.sideinfo.specs.Frames.{blkstrtinfoBy}
 use Rattle.rows.specs.Syntax.{Block, _⧺_, meaning}
 use Rattle.annex.specs.Audblk.{cpl-strategy, bandwidth}
 use Rattle.annex.specs.Frame.{eac3}

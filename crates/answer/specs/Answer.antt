@@ -7,10 +7,10 @@ use Rattle.reading.specs.Run.{Result, accepted, refused}
 use Rattle.reading.specs.Room.{Out}
 use Rattle.cells.specs.Cells.{State, cellOf}
 use Rattle.cells.specs.Names.{ACMOD, AHT-TAGS, AHTINU, AUDIO-END, BLOCK-STARTS, BSID, CPL-BLOCKS, FSCOD, LFEON, MANTISSA-STARTS, NUMBLKS, SPX-BLOCKS, STRMTYP, SUBSTREAMID}
-use Rattle.derivations.specs.Blocks.{flagOf}
+use Rattle.sideinfo.specs.Blocks.{flagOf}
 use Rattle.bits.specs.declared.BitPlace.{BitPlace}
-use Rattle.derivations.specs.Steps.{tabOf}
-use Rattle.derivations.specs.Shapes.{flagsOf}
+use Rattle.sideinfo.specs.Steps.{tabOf}
+use Rattle.sideinfo.specs.Shapes.{flagsOf}
 use Rattle.answer.specs.declared.Frame.{Frame}
 use Rattle.answer.specs.declared.Answer.{Answer}
 use Rattle.answer.specs.declared.Verdict.{Verdict}

@@ -7,8 +7,8 @@ use bits::BitPlace;
 use bits::ByteCount;
 use cells::cell_of;
 use cells::numbers as c;
-use derivations::flags::flag;
-use derivations::shapes::seven_flags;
+use sideinfo::flags::flag;
+use sideinfo::shapes::seven_flags;
 use syntax::Cursor;
 
 // An accepted frame, or the refusal's number, its bit place, and the records that were written.

@@ -13,9 +13,9 @@ use Rattle.allocation.specs.State.{freshState}
 use Rattle.cells.specs.Cells.{State, cellOf, putIn}
 use Rattle.cells.specs.Names.{ACMOD, CHBWCOD, CPLINUS, CPLSTRE, FRMSIZ, LFEEXPSTR, AHT-READ, AHT-TAGS, AHTINU, BAI-SENT, CH, CHEXPSTR, CPL-SUBND-END, CPLBEGF, CPLBNDSTRC, CPLEND, CPLENDF, CPLEXPSTR, CPLINU, CPLSTRT, CSNROFFST, DELTNSEG, ENDMANT, FGAINCOD, FIRSTCPLCOS, FIRSTCPLLEAK, FIRSTSPXCOS, FRMCHEXPSTR, FRMCPLEXPSTR, FSNROFFST, LFEON, NCHREGS, NCPLBLKS, NCPLBND, NCPLREGS, NFCHANS, NLFEREGS, NREMATBD, NSPXBNDS, NUMBLKS, NUMBLKSCOD, SPX-BEGIN, SPX-END, SPXBEGF, SPXBNDSTRC, SPXENDF, SPXINU, TAGS, WIDTH}
 use Rattle.derivations.specs.Acted.{Acted, acted}
-use Rattle.derivations.specs.Steps.{sumOf, eachOf}
-use Rattle.derivations.specs.Frames.{numblksBy, nfchansBy, holding, ncplblksBy, strategiesBy, cplStrategiesBy, chStrategiesBy, cplRegions, regionsFrom, nchregsBy, regionsBy, powersBelow, blkstrtinfoBy}
-use Rattle.derivations.specs.Blocks.{spxRangeBy, nspxbndsBy, cplRangeBy, ncplbndBy, nrematbdBy, flagOf, coupledIn, extendedIn, endmantOf, cplBinsBy, channelsOf, unknownHere, endmantsBy, markedIn, readOf, ahtReadBy}
+use Rattle.sideinfo.specs.Steps.{sumOf, eachOf}
+use Rattle.sideinfo.specs.Frames.{numblksBy, nfchansBy, holding, ncplblksBy, strategiesBy, cplStrategiesBy, chStrategiesBy, cplRegions, regionsFrom, nchregsBy, regionsBy, powersBelow, blkstrtinfoBy}
+use Rattle.sideinfo.specs.Blocks.{spxRangeBy, nspxbndsBy, cplRangeBy, ncplbndBy, nrematbdBy, flagOf, coupledIn, extendedIn, endmantOf, cplBinsBy, channelsOf, unknownHere, endmantsBy, markedIn, readOf, ahtReadBy}
 use Rattle.derivations.specs.Allocating.{putAll, sentOf, putState, fiveOnes, freshBy, defaultsBy, allocateIn}
 use Rattle.derivations.specs.Derivations.{Numblks, Nfchans, Fresh, Ncplblks, CplStrategies, ChStrategies, Regions, Blkstrtinfo, SpxRange, Nspxbnds, CplRange, Ncplbnd, Nrematbd, Endmants, Defaults, Allocation, AhtRead, puts as putting, endmantsIn, derived}
 use Rattle.bounds.specs.Bounds.{bounds, mostIn, most, Within}

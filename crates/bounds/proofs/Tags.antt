@@ -17,7 +17,7 @@ use Rattle.mantissas.specs.Mantissas.{conventionalOf}
 use Rattle.hybrid.specs.Hybrid.{activeIn, gainsOf, smallOf, largeOf, premantissaOf, premantissasOf, binOf, binsOf, ahtOf}
 use Rattle.plan.specs.Plan.{Along, visitOf, visitIf, slotsOf, mantissasOf}
 use Rattle.cells.specs.Cells.{State}
-use Rattle.derivations.specs.Shapes.{mantissasIn}
+use Rattle.derivations.specs.Mantissas.{mantissasIn}
 use Rattle.bounds.specs.Bounds.{tagsMost}
 
 -- what a walk inside a span tells, whatever the bits

@@ -17,7 +17,7 @@ use Rattle.exponents.specs.Set.{setOf}
 use Rattle.cells.specs.Cells.{State, state, Addr, Sum, cellOf, stored, placeOf, heldOf, sumOf, partOf}
 use Rattle.derivations.specs.Derivations.{derived}
 use Rattle.derivations.specs.Sets.{exponentsOf}
-use Rattle.derivations.specs.Shapes.{mantissasIn}
+use Rattle.derivations.specs.Mantissas.{mantissasIn}
 use Rattle.rows.specs.Syntax.{Cond, Count, Value, Item, Block, element, elements, span, mantissas, exponents, when, each, reject, reject-at, put, fill, derive, end, _⨾_, _⧺_, none, holdsOf, countOf, amountOf, turns, filled, one, item, meaning}
 use Rattle.bounds.specs.Bounds.{tagsMost}
 use Rattle.bounds.proofs.Tags.{tags-most}

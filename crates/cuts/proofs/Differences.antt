@@ -11,7 +11,7 @@ use Rattle.reading.specs.Run.{Entry}
 use Rattle.reading.proofs.Laws.{grows}
 use Rattle.cells.specs.Cells.{State, Addr, cellOf, putIn, stored, placeOf, heldOf}
 use Rattle.cells.specs.Names.{BLK, CPL-SUBND-END, CPLBEGF, MIXBITS, MIXEND, MIXSTART, MIXUSED, NCPLSUBND, NUMBLKS, NUMBLKSCOD, SPX-BEGIN, SPX-END, WIDTH}
-use Rattle.derivations.specs.Frames.{numblksBy}
+use Rattle.sideinfo.specs.Frames.{numblksBy}
 use Rattle.derivations.specs.Derivations.{Numblks, Blkstrtinfo, Nspxbnds, Ncplbnd, derived}
 use Rattle.rows.specs.Syntax.{Value, Here, Let, Less, Plus, Minus, Item, Block, element, elements, span, mantissas, exponents, when, each, reject, reject-at, put, fill, derive, _⨾_, _⧺_, cell, meaning}
 use Rattle.annex.specs.Syncinfo.{syncinfo}

@@ -12,9 +12,9 @@ use borrow.Author.Tests.{leb-true, not-false}
 use Rattle.reading.specs.Run.{Entry}
 use Rattle.cells.specs.Cells.{State, Addr, cellOf, putIn, stored, placeOf, heldOf}
 use Rattle.cells.specs.Names.{AHT-READ, AHT-TAGS, AHTINU, BLK, CPL-BLOCKS, CPL-SUBND-END, CPLBEGF, CPLBNDSTRC, CPLINUS, FRMSIZ, LFEON, NUMBLKS, SPX-BEGIN, SPX-BLOCKS, SPX-END, SPXBNDSTRC, TAGS}
-use Rattle.derivations.specs.Steps.{eachOf}
-use Rattle.derivations.specs.Frames.{holding, powersBelow}
-use Rattle.derivations.specs.Blocks.{flagOf, coupledIn, channelsOf, markedIn, readOf, ahtReadBy}
+use Rattle.sideinfo.specs.Steps.{eachOf}
+use Rattle.sideinfo.specs.Frames.{holding, powersBelow}
+use Rattle.sideinfo.specs.Blocks.{flagOf, coupledIn, channelsOf, markedIn, readOf, ahtReadBy}
 use Rattle.derivations.specs.Derivations.{AhtRead, derived}
 use Rattle.rows.specs.Syntax.{Count, Fixed, Held, Value, Here, Let, Less, Plus, Minus, Item, Block, element, elements, span, mantissas, exponents, when, each, reject, reject-at, put, fill, derive, _⧺_, cell, amountOf, meaning}
 use Rattle.annex.specs.Syncinfo.{syncinfo}
@@ -23,7 +23,7 @@ use Rattle.annex.specs.Audfrm.{audfrm}
 use Rattle.annex.specs.Audblk.{dynamics, spx-strategy, spx-coordinates, cpl-strategy, cpl-coordinates, rematrixing, bandwidth, exponents-of-block, parameters, deltas, skip-field, quantized, audblk}
 use Rattle.annex.specs.Annex.{header, audblks, body}
 use Rattle.cells.proofs.Cells.{cell-none}
-use Rattle.derivations.proofs.StepLaws.{each-within}
+use Rattle.sideinfo.proofs.StepLaws.{each-within}
 use Rattle.annex.specs.Frame.{start, bytesOf}
 use Rattle.bounds.specs.Along.{Point, Along}
 use Rattle.bounds.specs.Bounds.{tagsMost, bounds, mostIn, most, Within}

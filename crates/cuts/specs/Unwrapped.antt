@@ -7,10 +7,10 @@ use lib.ListN.{getD}
 use Rattle.reading.specs.Run.{accepted, skim, run}
 use Rattle.cells.specs.Cells.{State, cellOf, heldOf}
 use Rattle.cells.specs.Names.{AHT-TAGS, CHBWCOD, CPL-SUBND-END, CPLBEGF, CPLBNDSTRC, CPLENDF, CPLINUS, FRMSIZ, NUMBLKS, NUMBLKSCOD, SPX-BEGIN, SPX-END, SPXBEGF, SPXBNDSTRC, SPXENDF, TAGS}
-use Rattle.derivations.specs.Frames.{holding, powersBelow}
-use Rattle.derivations.specs.Blocks.{bandsOf}
+use Rattle.sideinfo.specs.Frames.{holding, powersBelow}
+use Rattle.sideinfo.specs.Blocks.{bandsOf}
 use Rattle.derivations.specs.Derivations.{Numblks, Ncplblks, Blkstrtinfo, SpxRange, Nspxbnds, CplRange, Ncplbnd, Endmants, AhtRead}
-use Rattle.derivations.specs.Shapes.{mantissasIn}
+use Rattle.derivations.specs.Mantissas.{mantissasIn}
 use Rattle.rows.specs.Syntax.{Item, element, elements, span, mantissas, exponents, when, each, reject, reject-at, put, fill, derive, countOf, amountOf, meaning}
 use Rattle.annex.specs.Annex.{header, body}
 use Rattle.annex.specs.Frame.{start, bytesOf}

@@ -18,7 +18,7 @@ use Rattle.allocation.specs.declared.Segments.{Segments}
 use Rattle.cells.specs.Cells.{state, cellOf, putIn}
 use Rattle.cells.specs.Names.{BAI-SENT, CSNROFFST, FSNROFFST, FGAINCOD, DELTNSEG, SPXBNDSTRC, CPLBNDSTRC, FIRSTSPXCOS, FIRSTCPLCOS, FIRSTCPLLEAK, FSCOD}
 use Rattle.derivations.specs.Acted.{acted}
-use Rattle.derivations.specs.Shapes.{shapeOf}
+use Rattle.sideinfo.specs.Shapes.{shapeOf}
 use Rattle.derivations.specs.Allocating.{putAll, sentOf, putState, fiveOnes, freshBy, allocStateOf, segmentsIn, allocateIn}
 
 -- a state of bit allocation put into its cells, and all that a frame's blocks start with

@@ -1,4 +1,2 @@
-pub mod StepLaws
-pub mod FrameLaws
-pub mod BlockLaws
 pub mod AllocLaws
+pub mod Ends

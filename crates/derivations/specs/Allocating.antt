@@ -12,10 +12,10 @@ use Rattle.allocation.specs.declared.AllocState.{AllocState}
 use Rattle.allocation.specs.declared.Segments.{Segments}
 use Rattle.slots.specs.Held.{bins}
 use Rattle.cells.specs.Cells.{State, state, cellOf, putIn}
-use Rattle.derivations.specs.Steps.{eachOf, tabOf}
+use Rattle.sideinfo.specs.Steps.{eachOf, tabOf}
 use Rattle.derivations.specs.Acted.{Acted, acted}
-use Rattle.derivations.specs.Blocks.{flagOf}
-use Rattle.derivations.specs.Shapes.{shapeOf}
+use Rattle.sideinfo.specs.Blocks.{flagOf}
+use Rattle.sideinfo.specs.Shapes.{shapeOf}
 use Rattle.cells.specs.Names.{FSCOD, BAI-SENT, SDCYCOD, FDCYCOD, SGAINCOD, DBPBCOD, FLOORCOD, CSNROFFST, CPLFLEAK, CPLSLEAK, FSNROFFST, FGAINCOD, DELTNSEG, DELTOFFST, DELTLEN, DELTBA, SPXBNDSTRC, CPLBNDSTRC, FIRSTSPXCOS, FIRSTCPLCOS, FIRSTCPLLEAK}
 
 -- n cells from the cell k on, as bytes

@@ -5,8 +5,8 @@ use mathlib.Core.List.{List}
 use lib.Dec.{eqb}
 use Rattle.cells.specs.Cells.{State, state}
 use Rattle.derivations.specs.Acted.{Acted, acted}
-use Rattle.derivations.specs.Frames.{numblksBy, nfchansBy, ncplblksBy, cplStrategiesBy, chStrategiesBy, regionsBy, blkstrtinfoBy}
-use Rattle.derivations.specs.Blocks.{spxRangeBy, nspxbndsBy, cplRangeBy, ncplbndBy, nrematbdBy, unknownHere, endmantsBy, ahtReadBy}
+use Rattle.sideinfo.specs.Frames.{numblksBy, nfchansBy, ncplblksBy, cplStrategiesBy, chStrategiesBy, regionsBy, blkstrtinfoBy}
+use Rattle.sideinfo.specs.Blocks.{spxRangeBy, nspxbndsBy, cplRangeBy, ncplbndBy, nrematbdBy, unknownHere, endmantsBy, ahtReadBy}
 use Rattle.derivations.specs.Allocating.{freshBy, defaultsBy, allocateIn}
 
 -- the number of blocks

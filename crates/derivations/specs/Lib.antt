@@ -1,9 +1,6 @@
 pub mod Acted
-pub mod Steps
-pub mod Frames
-pub mod Blocks
 pub mod Sets
-pub mod Shapes
+pub mod Mantissas
 pub mod Allocating
 pub mod Derivations
 pub mod Derives

@@ -1,10 +1,7 @@
 // The derivations: what the standard gives as a formula or a table, and not as syntax.
 pub mod allocating;
-pub mod blocks;
-pub mod flags;
-pub mod frames;
+pub mod mantissas;
 pub mod sets;
-pub mod shapes;
 
 ghost use mathlib.Core.Path.{_≡_};
 ghost use Rattle.slots.specs.Held.{bins, Held};
@@ -14,20 +11,20 @@ ghost use Rattle.derivations.specs.Derives.{Derives};
 use crate::allocating::allocate_in;
 use crate::allocating::defaults;
 use crate::allocating::fresh;
-use crate::blocks::aht_read;
-use crate::blocks::cpl_range;
-use crate::blocks::endmants_in;
-use crate::blocks::ncplbnd;
-use crate::blocks::nrematbd;
-use crate::blocks::nspxbnds;
-use crate::blocks::spx_range;
-use crate::frames::blkstrtinfo;
-use crate::frames::ch_strategies;
-use crate::frames::cpl_strategies;
-use crate::frames::ncplblks;
-use crate::frames::nfchans;
-use crate::frames::numblks;
-use crate::frames::regions;
+use sideinfo::blocks::aht_read;
+use sideinfo::blocks::cpl_range;
+use sideinfo::blocks::endmants_in;
+use sideinfo::blocks::ncplbnd;
+use sideinfo::blocks::nrematbd;
+use sideinfo::blocks::nspxbnds;
+use sideinfo::blocks::spx_range;
+use sideinfo::frames::blkstrtinfo;
+use sideinfo::frames::ch_strategies;
+use sideinfo::frames::cpl_strategies;
+use sideinfo::frames::ncplblks;
+use sideinfo::frames::nfchans;
+use sideinfo::frames::numblks;
+use sideinfo::frames::regions;
 
 // The derivation k: 0, or a refusal's number.
 pub fn derive(

@@ -31,7 +31,7 @@ use Rattle.allocation.proofs.MemoLaws.{memo-stale}
 use Rattle.cells.specs.Cells.{State, state, cellOf, putIn, placeOf, sumOf, stored, signed, partOf}
 use Rattle.cells.specs.Names.{ABSEXP, BLOCK}
 use Rattle.derivations.specs.Sets.{strategyOf, startOf, endOf, exponentsOf}
-use Rattle.derivations.specs.Shapes.{mantissasIn}
+use Rattle.derivations.specs.Mantissas.{mantissasIn}
 use Rattle.rows.specs.Rows.{nameIn, widthIn, indexIn, keepIn, regionIn, slotIn}
 use Rattle.rows.specs.Steps.{inputIn, setIn}
 use Rattle.inputs.specs.Reads.{Right, looked, bitsOf, passedOf, Skimmed, recorded, Keeps, Looks, Sees, Takes, Gathers, setBy}

@@ -16,7 +16,7 @@ use Rattle.allocation.specs.Memo.{Memo}
 use Rattle.cells.specs.Cells.{State, state, cellOf, placeOf, sumOf, stored, signed, partOf}
 use Rattle.cells.specs.Names.{ABSEXP, BLOCK}
 use Rattle.derivations.specs.Sets.{strategyOf, startOf, endOf}
-use Rattle.derivations.specs.Shapes.{mantissasIn}
+use Rattle.derivations.specs.Mantissas.{mantissasIn}
 use Rattle.rows.specs.Rows.{nameIn, indexIn, keepIn, slotIn, widthIn}
 use Rattle.rows.specs.Steps.{inputIn, setIn}
 use Rattle.inputs.specs.declared.Look.{Look}

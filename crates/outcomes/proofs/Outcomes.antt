@@ -32,10 +32,10 @@ use Rattle.cells.specs.Cells.{State, stored, sumOf}
 use Rattle.cells.specs.Names.{FRMSIZ}
 use Rattle.derivations.specs.Acted.{Acted, acted}
 use Rattle.derivations.specs.Allocating.{allocateIn, allocStateOf}
-use Rattle.derivations.specs.Blocks.{unknownHere, endmantsBy}
+use Rattle.sideinfo.specs.Blocks.{unknownHere, endmantsBy}
 use Rattle.derivations.specs.Derivations.{Numblks, Nfchans, Fresh, Ncplblks, CplStrategies, ChStrategies, Regions, Blkstrtinfo, SpxRange, Nspxbnds, CplRange, Ncplbnd, Nrematbd, Endmants, Defaults, Allocation, AhtRead, puts, endmantsIn, derived}
 use Rattle.derivations.specs.Sets.{exponentsOf}
-use Rattle.derivations.specs.Shapes.{mantissasIn}
+use Rattle.derivations.specs.Mantissas.{mantissasIn}
 use Rattle.rows.specs.Syntax.{Item, Block, element, elements, span, mantissas, exponents, when, each, reject, reject-at, put, fill, derive, end, _⨾_, among, holdsOf, turns, one, item, meaning}
 use Rattle.annex.specs.Syncinfo.{syncinfo}
 use Rattle.annex.specs.Annex.{header, body}

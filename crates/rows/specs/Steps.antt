@@ -8,7 +8,7 @@ use Rattle.reading.specs.Tree.{Tree, done, ahead, span as spanned, scan}
 use Rattle.cells.specs.Cells.{State, state, Addr, Sum, cellOf, placeOf, heldOf, sumOf, stored, partOf}
 use Rattle.derivations.specs.Derivations.{derived}
 use Rattle.derivations.specs.Sets.{exponentsOf}
-use Rattle.derivations.specs.Shapes.{mantissasIn}
+use Rattle.derivations.specs.Mantissas.{mantissasIn}
 use Rattle.rows.specs.Syntax.{numberOf, amountOf, countOf, turns, filled, one}
 use Rattle.rows.specs.Rows.{Row, Elements, Span, Mantissas, Exponents, When, Refuse, Compare, Each, Put, Fill, Do, masked, compares, nameIn, indexIn, widthIn, keepIn, regionIn, slotIn, stopIn, rowOf}
 

@@ -10,7 +10,7 @@ use Rattle.cells.specs.Cells.{State, state, Addr, Sum, addr, sum, cellOf, putIn
 use Rattle.derivations.specs.Acted.{Acted}
 use Rattle.derivations.specs.Derivations.{derived}
 use Rattle.derivations.specs.Sets.{exponentsOf}
-use Rattle.derivations.specs.Shapes.{mantissasIn}
+use Rattle.derivations.specs.Mantissas.{mantissasIn}
 
 -- a number: that of a cell, or a fixed one
 pub data Number : Type 0 where

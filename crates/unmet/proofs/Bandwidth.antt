@@ -14,8 +14,8 @@ use Rattle.exponents.proofs.Unmet.{Ending, end-coupled, end-extended, end-coded
 use Rattle.cells.specs.Cells.{State, cellOf, putIn, stored, placeOf, heldOf}
 use Rattle.cells.specs.Names.{BLK, CH, CHBWCOD, CPL-SUBND-END, CPLBEGF, CPLEND, CPLINU, CPLINUS, CPLSTRE, CPLSTRT, ENDMANT, NFCHANS, SPX-BEGIN}
 use Rattle.derivations.specs.Acted.{acted}
-use Rattle.derivations.specs.Steps.{eachOf}
-use Rattle.derivations.specs.Blocks.{coupledIn, extendedIn, endmantOf, cplBinsBy, channelsOf, unknownHere, endmantsOf, endmantsBy}
+use Rattle.sideinfo.specs.Steps.{eachOf}
+use Rattle.sideinfo.specs.Blocks.{coupledIn, extendedIn, endmantOf, cplBinsBy, channelsOf, unknownHere, endmantsOf, endmantsBy}
 use Rattle.derivations.specs.Derivations.{Endmants, puts as putting, endmantsIn, derived}
 use Rattle.rows.specs.Syntax.{Let, cell, at}
 use Rattle.annex.specs.Audblk.{cpl-strategy, bandwidth}

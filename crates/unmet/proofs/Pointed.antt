@@ -26,10 +26,10 @@ use Rattle.allocation.proofs.Unmet.{bap-within, hebap-within}
 use Rattle.cells.specs.Cells.{State, cellOf, putIn, stored, placeOf}
 use Rattle.cells.specs.Names.{AHT-READ, AHTINU, BLK, CHINCPL, CPLEND, CPLINU, CPLSTRT, ENDMANT, FSCOD, LFEON, MANTISSA-STARTS, NFCHANS, NUMBLKS, TAGS}
 use Rattle.derivations.specs.Acted.{Acted, acted}
-use Rattle.derivations.specs.Steps.{tabOf}
+use Rattle.sideinfo.specs.Steps.{tabOf}
 use Rattle.derivations.specs.Allocating.{allocStateOf, segmentsIn, allocateIn}
-use Rattle.derivations.specs.Blocks.{flagOf, unknownHere, endmantsBy}
-use Rattle.derivations.specs.Shapes.{flagsOf, valuesOf, shapeOf}
+use Rattle.sideinfo.specs.Blocks.{flagOf, unknownHere, endmantsBy}
+use Rattle.sideinfo.specs.Shapes.{flagsOf, valuesOf, shapeOf}
 use Rattle.derivations.specs.Derivations.{Numblks, Nfchans, Fresh, Ncplblks, CplStrategies, ChStrategies, Regions, Blkstrtinfo, SpxRange, Nspxbnds, CplRange, Ncplbnd, Nrematbd, Endmants, Defaults, Allocation, AhtRead, puts as putting, endmantsIn, derived}
 use Rattle.rows.specs.Syntax.{Item, Block, element, elements, span, mantissas, exponents, when, each, reject, reject-at, put, fill, derive, end, _⨾_, _⧺_, cell, at}
 use Rattle.annex.specs.Bsi.{bsi}

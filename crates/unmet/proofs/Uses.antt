@@ -13,7 +13,7 @@ use Rattle.tables.specs.Small.{nfchans}
 use Rattle.reading.specs.Run.{Entry, accepted, run}
 use Rattle.cells.specs.Cells.{State, cellOf, putIn, stored, placeOf, heldOf}
 use Rattle.cells.specs.Names.{ACMOD, BLK, CHBWCOD, CPLINUS, CPLSTRE, FSCOD, NFCHANS, NUMBLKS}
-use Rattle.derivations.specs.Frames.{nfchansBy}
+use Rattle.sideinfo.specs.Frames.{nfchansBy}
 use Rattle.derivations.specs.Derivations.{Nfchans, derived}
 use Rattle.rows.specs.Syntax.{Let, at, meaning}
 use Rattle.annex.specs.Syncinfo.{syncinfo}

@@ -15,7 +15,7 @@ use Rattle.cells.specs.Cells.{State, Addr, cellOf, sumOf}
 use Rattle.cells.specs.Names.{CPL-SUBND-END, CPLEND, CPLINU, CPLSTRT, ENDMANT, FSCOD, HELDEND, HELDSTRT, LFEON, NFCHANS}
 use Rattle.derivations.specs.Derivations.{Allocation}
 use Rattle.derivations.specs.Sets.{strategyOf, startOf, endOf}
-use Rattle.derivations.specs.Shapes.{shapeOf}
+use Rattle.sideinfo.specs.Shapes.{shapeOf}
 use Rattle.plan.specs.Plan.{mantissasOf}
 use Rattle.slots.specs.declared.Shape.{Shape}
 use Rattle.rows.specs.Syntax.{Item, element, elements, span, mantissas, exponents, when, each, reject, reject-at, put, fill, derive, meaning}

@@ -1,4 +1,4 @@
-use Rattle.derivations.specs.Steps.{tabOf}
+use Rattle.sideinfo.specs.Steps.{tabOf}
 use native.Mathlib.Nat.{add-zero}
 use borrow.Author.Needs.{needs}
 use Rattle.answer.proofs.six_places.Statement.{statement}

@@ -1,4 +1,4 @@
-use Rattle.derivations.proofs.BlockLaws.{endmants-are}
+use Rattle.derivations.proofs.Ends.{endmants-are}
 use Rattle.derivations.specs.Derivations.{derived}
 use borrow.Author.Tests.{ne-eqb}
 use borrow.Author.Needs.{needs}

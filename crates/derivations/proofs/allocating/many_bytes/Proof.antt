@@ -1,7 +1,7 @@
 use Prim.Native.Nat.{_%_, _+_, _-_, _≤_}
 use Rattle.cells.specs.Cells.{cellOf}
-use Rattle.derivations.proofs.StepLaws.{each-all, each-more, each-none, set-all}
-use Rattle.derivations.specs.Steps.{eachOf}
+use Rattle.sideinfo.proofs.StepLaws.{each-all, each-more, each-none, set-all}
+use Rattle.sideinfo.specs.Steps.{eachOf}
 use lib.ListN.{replicate, set}
 use mathlib.Core.Path.{_∙_, _≡_}
 use native.Mathlib.Omega.{arith}

@@ -1,9 +1,0 @@
-use borrow.Author.Needs.{needs}
-use Rattle.derivations.proofs.flags.flag.Statement.{statement}
-use Rattle.derivations.proofs.flags.flag.Tie as tie
-
-returns : tie.Need-returns
-returns c = rw (c .cell-of .ensures)
-
-pub flag-spec : {M : Type 1} → statement M
-flag-spec = tie.close (tie.spec (λ c κs. search needs) returns)

@@ -1,0 +1,3 @@
+pub mod BlockLaws
+pub mod FrameLaws
+pub mod StepLaws

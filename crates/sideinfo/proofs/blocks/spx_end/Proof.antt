@@ -1,0 +1,13 @@
+use borrow.Author.Tests.{le-ltb, lt-ltb}
+use borrow.Author.Needs.{needs}
+use Rattle.sideinfo.proofs.blocks.spx_end.Statement.{statement}
+use Rattle.sideinfo.proofs.blocks.spx_end.Tie as tie
+
+returns : tie.Need-returns
+returns c = rw (lt-ltb _ _ (c .if1 .taken))
+
+returns-2 : tie.Need-returns-2
+returns-2 c = rw (le-ltb _ _ (c .if1 .left))
+
+pub spx-end-spec : {M : Type 1} → statement M
+spx-end-spec = tie.close (tie.spec (λ c. search needs) (λ c. search needs) (λ c. search needs) returns returns-2)

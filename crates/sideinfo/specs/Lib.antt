@@ -1,0 +1,4 @@
+pub mod Blocks
+pub mod Frames
+pub mod Shapes
+pub mod Steps
