@@ -157,7 +157,8 @@ DELTBA 48 by slot and segment
 SKIPLE
 SKIPL
 MANTISSA-STARTS 6 by block
-TAGS 1 the GAQ tags of a block
+TAGS 8 what the walk of a block's mantissas tells: its GAQ tags, and the bits of each slot
+SLOT-BITS 48 the bits of the slots, by block, in rows of eight
 AHT-TAGS 1 the GAQ tags so far
 AUDIO-END 1 the bit after the last block
 FRAME-END 1 the bit after the frame

@@ -495,19 +495,19 @@ pub const TABLE: [u64; 512] = [
     65407124, // quantized: mantissas mantissas-of-block (cell TAGS)
     556, // quantized: derive AhtRead
     154, // audblks: put (cell BLOCK) (number 0)
-    64138, // audblks: put (cell AUDIO-END) Here
-    64394, // tail: put (cell AFTER-AUDIO) Here
-    1106142386256842, // tail: put (cell AFTER-AUDIO) (Minus (cell FRAME-END) AFTER-AUDIO)
-    600367037480106, // tail: put (cell AFTER-AUXDATAE) (Less 17 1 (cell FRAME-END))
-    9895730543565, // tail: reject (Under (cell AFTER-AUDIO) (Word 18)) 30
-    90071992564195208, // tail: when (Is (cell AUXDATAE) 1)
-    17727876037581, // tail: reject-at (Under (cell AFTER-AUDIO) (Word 32)) 31 AFTER-AUXDATAE
-    633352453381290, // tail: put (cell WIDTH) (Less 32 1 (cell AFTER-AUDIO))
+    71178, // audblks: put (cell AUDIO-END) Here
+    71434, // tail: put (cell AFTER-AUDIO) Here
+    1227092356306762, // tail: put (cell AFTER-AUDIO) (Minus (cell FRAME-END) AFTER-AUDIO)
+    600370728474666, // tail: put (cell AFTER-AUXDATAE) (Less 17 1 (cell FRAME-END))
+    9895730550605, // tail: reject (Under (cell AFTER-AUDIO) (Word 18)) 30
+    90071992564196088, // tail: when (Is (cell AUXDATAE) 1)
+    17742639994701, // tail: reject-at (Under (cell AFTER-AUDIO) (Word 32)) 31 AFTER-AUXDATAE
+    633356144368810, // tail: put (cell WIDTH) (Less 32 1 (cell AFTER-AUDIO))
     3254554418217155, // tail: span auxbits WIDTH
-    66380000, // tail: element auxdatal none 14 (cell AUXDATAL)
-    102115397664045, // tail: reject-at (Over (cell AUXDATAL) (held WIDTH)) 32 AFTER-AUXDATAE
-    36029346749620104, // tail: when (Not (cell AUXDATAE) 1)
-    602566127803562, // tail: put (cell WIDTH) (Less 18 1 (cell AFTER-AUDIO))
+    73588960, // tail: element auxdatal none 14 (cell AUXDATAL)
+    102130161621165, // tail: reject-at (Over (cell AUXDATAL) (held WIDTH)) 32 AFTER-AUXDATAE
+    36029346749620984, // tail: when (Not (cell AUXDATAE) 1)
+    602569818791082, // tail: put (cell WIDTH) (Less 18 1 (cell AFTER-AUDIO))
     3254554418217155, // tail: span auxbits WIDTH
     4304, // tail: element auxdatae none 1 no
     5600, // tail: element encinfo none 1 no

@@ -6,13 +6,14 @@ use lib.ListN.{replicate}
 use Rattle.reading.specs.Run.{Result, accepted, refused}
 use Rattle.reading.specs.Room.{Out}
 use Rattle.cells.specs.Cells.{State, cellOf}
-use Rattle.cells.specs.Names.{ACMOD, AHT-TAGS, AHTINU, AUDIO-END, BLOCK-STARTS, BSID, CPL-BLOCKS, FSCOD, LFEON, MANTISSA-STARTS, NUMBLKS, SPX-BLOCKS, STRMTYP, SUBSTREAMID}
+use Rattle.cells.specs.Names.{ACMOD, AHT-TAGS, AHTINU, AUDIO-END, BLOCK-STARTS, BSID, CPL-BLOCKS, FSCOD, LFEON, MANTISSA-STARTS, NUMBLKS, SLOT-BITS, SPX-BLOCKS, STRMTYP, SUBSTREAMID}
 use Rattle.sideinfo.specs.Blocks.{flagOf}
 use Rattle.bits.specs.declared.BitPlace.{BitPlace}
 use Rattle.sideinfo.specs.Steps.{tabOf}
-use Rattle.sideinfo.specs.Shapes.{flagsOf}
+use Rattle.sideinfo.specs.Shapes.{flagsOf, valuesOf}
 use Rattle.answer.specs.declared.Frame.{Frame}
 use Rattle.answer.specs.declared.Answer.{Answer}
+use Rattle.answer.specs.declared.SlotBits.{SlotBits}
 use Rattle.answer.specs.declared.Verdict.{Verdict}
 use Rattle.answer.specs.declared.Verdict.the-variants.{Accepted, Refused}
 
@@ -22,6 +23,13 @@ placeAt p = record { 0 = p }
 
 abbrev pub placesOf : List ℕ → ℕ → ℕ → List BitPlace
 placesOf m k n = tabOf (λ i. placeAt (cellOf m (k + i))) 0 n
+
+-- the bits that the slots of a block took, from the cell k on; those of six blocks
+abbrev pub slotBitsAt : List ℕ → ℕ → SlotBits
+slotBitsAt m k = record { bits = valuesOf m k 7 }
+
+abbrev pub slotBitsIn : List ℕ → List SlotBits
+slotBitsIn m = tabOf (λ b. slotBitsAt m (SLOT-BITS + 8 * b)) 0 6
 
 -- what the cells tell of an accepted frame that ends at the place p, with n records
 abbrev pub frameOf : List ℕ → ℕ → ℕ → Frame
@@ -42,6 +50,7 @@ frameOf m p n = record {
   «aht_slots» = flagsOf m AHTINU 7;
   «spx_blocks» = cellOf m SPX-BLOCKS;
   «cpl_blocks» = cellOf m CPL-BLOCKS;
+  «slot_bits» = slotBitsIn m;
 }
 
 -- after a refusal all is 0 or no
@@ -63,6 +72,7 @@ nothing = record {
   «aht_slots» = replicate 7 false;
   «spx_blocks» = 0;
   «cpl_blocks» = 0;
+  «slot_bits» = replicate 6 (record { bits = replicate 7 0 });
 }
 
 abbrev pub answerBy : Result State → ℕ → ℕ → Answer

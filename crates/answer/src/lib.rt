@@ -1,7 +1,7 @@
 // What the entry answers: an accepted frame, or one numbered refusal.
 ghost use mathlib.Core.Path.{_≡_};
 ghost use Prim.Native.Nat.{_≤_, _<_};
-ghost use Rattle.answer.specs.Answer.{nothing, placesOf, frameOf, numberBy, placeBy, countBy};
+ghost use Rattle.answer.specs.Answer.{nothing, placesOf, slotBitsAt, slotBitsIn, frameOf, numberBy, placeBy, countBy};
 ghost use Rattle.answer.specs.Cursors.{refusalFrom, answerFrom};
 use bits::BitPlace;
 use bits::ByteCount;
@@ -15,6 +15,11 @@ use syntax::Cursor;
 pub enum Verdict {
     Accepted,
     Refused(u8, BitPlace, usize),
+}
+
+// The bits that the slots of a block took, in the order of aht_slots: the channels 0 to 4, coupling, LFE.
+pub struct SlotBits {
+    pub bits: [u16; 7],
 }
 
 // What a frame says of itself. The starts of blocks that it has not are 0; after a refusal all is 0 or no.
@@ -35,6 +40,7 @@ pub struct Frame {
     pub aht_slots: [bool; 7],
     pub spx_blocks: u16,
     pub cpl_blocks: u16,
+    pub slot_bits: [SlotBits; 6],
 }
 
 pub struct Answer {
@@ -63,6 +69,7 @@ fn none() -> Frame
         aht_slots: [false; 7],
         spx_blocks: 0,
         cpl_blocks: 0,
+        slot_bits: [SlotBits { bits: [0; 7] }; 6],
     }
 }
 
@@ -78,6 +85,37 @@ fn six_places(cells: &[u16; 1024], k: usize) -> [BitPlace; 6]
         BitPlace(cell_of(cells, k + 3)),
         BitPlace(cell_of(cells, k + 4)),
         BitPlace(cell_of(cells, k + 5)),
+    ]
+}
+
+// The bits of the slots of a block, from the cell k on; those of six blocks.
+fn bits_of_block(cells: &[u16; 1024], k: usize) -> SlotBits
+    requires { ⌜ k ≤ 1024 ⌝ }
+    ensures { λ r. ⌜ r ≡ slotBitsAt (now (cells .entry)) k ⌝ }
+{
+    SlotBits {
+        bits: [
+            cell_of(cells, k),
+            cell_of(cells, k + 1),
+            cell_of(cells, k + 2),
+            cell_of(cells, k + 3),
+            cell_of(cells, k + 4),
+            cell_of(cells, k + 5),
+            cell_of(cells, k + 6),
+        ],
+    }
+}
+
+fn bits_of_blocks(cells: &[u16; 1024]) -> [SlotBits; 6]
+    ensures { λ r. ⌜ r ≡ slotBitsIn (now (cells .entry)) ⌝ }
+{
+    [
+        bits_of_block(cells, c::SLOT_BITS),
+        bits_of_block(cells, c::SLOT_BITS + 8),
+        bits_of_block(cells, c::SLOT_BITS + 16),
+        bits_of_block(cells, c::SLOT_BITS + 24),
+        bits_of_block(cells, c::SLOT_BITS + 32),
+        bits_of_block(cells, c::SLOT_BITS + 40),
     ]
 }
 
@@ -100,6 +138,7 @@ fn frame_of(cells: &[u16; 1024], at: BitPlace, count: usize) -> Frame
     let aht_slots = seven_flags(cells, c::AHTINU);
     let spx_blocks = cell_of(cells, c::SPX_BLOCKS);
     let cpl_blocks = cell_of(cells, c::CPL_BLOCKS);
+    let slot_bits = bits_of_blocks(cells);
     Frame {
         bytes: bytes,
         fields: count,
@@ -117,6 +156,7 @@ fn frame_of(cells: &[u16; 1024], at: BitPlace, count: usize) -> Frame
         aht_slots: aht_slots,
         spx_blocks: spx_blocks,
         cpl_blocks: cpl_blocks,
+        slot_bits: slot_bits,
     }
 }
 

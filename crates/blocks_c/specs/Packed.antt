@@ -4,12 +4,12 @@ use mathlib.Core.List.{List}
 use Prim.Native.Nat.{ℕ, _+_, _*_}
 use Rattle.reading.specs.Run.{Outcome}
 use Rattle.mantissas.specs.Outcomes.{groupsOutcome}
-use Rattle.hybrid.specs.Outcomes.{tagsOutcome}
+use Rattle.hybrid.specs.Outcomes.{slotOutcome}
 use Rattle.exponents.specs.declared.Group.{Group}
 use Rattle.exponents.specs.declared.Group.the-variants.{Refused, Moved}
 use Rattle.mantissas.specs.declared.Groups.{Groups}
 use Rattle.mantissas.specs.declared.Passed.{Passed}
-use Rattle.hybrid.specs.declared.Tagged.{Tagged}
+use Rattle.hybrid.specs.declared.Transformed.{Transformed}
 
 abbrev pub packedGroup : Group → ℕ
 packedGroup (Refused n) = 16777216 * n
@@ -26,6 +26,6 @@ pub record PassedOutcome (r : ℕ) (o : List ℕ → Outcome Groups) : Type 0 wh
   pub tells : (s : List ℕ) → groupsOutcome passed ≡ o s
 
 pub record TagsOutcome (r : ℕ) (o : Outcome ℕ) : Type 0 where
-  pub tagged : Tagged
+  pub tagged : Transformed
   pub is : r ≡ packed (tagged .number) (tagged .place .0) (tagged .tags) 0 0
-  pub tells : tagsOutcome tagged ≡ o
+  pub tells : slotOutcome tagged ≡ o

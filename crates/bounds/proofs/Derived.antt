@@ -11,11 +11,11 @@ use borrow.Author.Tests.{leb-true}
 use Rattle.tables.specs.Small.{nfchans, frmexpstr, defspxbndstrc, defcplbndstrc}
 use Rattle.allocation.specs.State.{freshState}
 use Rattle.cells.specs.Cells.{State, cellOf, putIn}
-use Rattle.cells.specs.Names.{ACMOD, CHBWCOD, CPLINUS, CPLSTRE, FRMSIZ, LFEEXPSTR, AHT-READ, AHT-TAGS, AHTINU, BAI-SENT, CH, CHEXPSTR, CPL-SUBND-END, CPLBEGF, CPLBNDSTRC, CPLEND, CPLENDF, CPLEXPSTR, CPLINU, CPLSTRT, CSNROFFST, DELTNSEG, ENDMANT, FGAINCOD, FIRSTCPLCOS, FIRSTCPLLEAK, FIRSTSPXCOS, FRMCHEXPSTR, FRMCPLEXPSTR, FSNROFFST, LFEON, NCHREGS, NCPLBLKS, NCPLBND, NCPLREGS, NFCHANS, NLFEREGS, NREMATBD, NSPXBNDS, NUMBLKS, NUMBLKSCOD, SPX-BEGIN, SPX-END, SPXBEGF, SPXBNDSTRC, SPXENDF, SPXINU, TAGS, WIDTH}
+use Rattle.cells.specs.Names.{ACMOD, CHBWCOD, CPLINUS, CPLSTRE, FRMSIZ, LFEEXPSTR, AHT-READ, AHT-TAGS, AHTINU, BAI-SENT, BLK, CH, CHEXPSTR, CPL-SUBND-END, CPLBEGF, CPLBNDSTRC, CPLEND, CPLENDF, CPLEXPSTR, CPLINU, CPLSTRT, CSNROFFST, DELTNSEG, ENDMANT, FGAINCOD, FIRSTCPLCOS, FIRSTCPLLEAK, FIRSTSPXCOS, FRMCHEXPSTR, FRMCPLEXPSTR, FSNROFFST, LFEON, NCHREGS, NCPLBLKS, NCPLBND, NCPLREGS, NFCHANS, NLFEREGS, NREMATBD, NSPXBNDS, NUMBLKS, NUMBLKSCOD, SLOT-BITS, SPX-BEGIN, SPX-END, SPXBEGF, SPXBNDSTRC, SPXENDF, SPXINU, TAGS, WIDTH}
 use Rattle.derivations.specs.Acted.{Acted, acted}
 use Rattle.sideinfo.specs.Steps.{sumOf, eachOf}
 use Rattle.sideinfo.specs.Frames.{numblksBy, nfchansBy, holding, ncplblksBy, strategiesBy, cplStrategiesBy, chStrategiesBy, cplRegions, regionsFrom, nchregsBy, regionsBy, powersBelow, blkstrtinfoBy}
-use Rattle.sideinfo.specs.Blocks.{spxRangeBy, nspxbndsBy, cplRangeBy, ncplbndBy, nrematbdBy, flagOf, coupledIn, extendedIn, endmantOf, cplBinsBy, channelsOf, unknownHere, endmantsBy, markedIn, readOf, ahtReadBy}
+use Rattle.sideinfo.specs.Blocks.{spxRangeBy, nspxbndsBy, cplRangeBy, ncplbndBy, nrematbdBy, flagOf, coupledIn, extendedIn, endmantOf, cplBinsBy, channelsOf, unknownHere, endmantsBy, markedIn, readOf, slotBitsOf, ahtReadBy}
 use Rattle.derivations.specs.Allocating.{putAll, sentOf, putState, fiveOnes, freshBy, defaultsBy, allocateIn}
 use Rattle.derivations.specs.Derivations.{Numblks, Nfchans, Fresh, Ncplblks, CplStrategies, ChStrategies, Regions, Blkstrtinfo, SpxRange, Nspxbnds, CplRange, Ncplbnd, Nrematbd, Endmants, Defaults, Allocation, AhtRead, puts as putting, endmantsIn, derived}
 use Rattle.bounds.specs.Bounds.{bounds, mostIn, most, Within}
@@ -70,6 +70,7 @@ sum-most f (suc n) h = omega (arith, sum-most f n h, h n)
 pub record Limits (m : List ℕ) : Type 0 where
   pub numblkscod : cellOf m NUMBLKSCOD ≤ 3
   pub numblks : cellOf m NUMBLKS ≤ 6
+  pub block : cellOf m BLK ≤ 5
   pub channel : cellOf m CH ≤ 4
   pub nfchans : cellOf m NFCHANS ≤ 5
   pub spxbegf : cellOf m SPXBEGF ≤ 7
@@ -91,6 +92,7 @@ unfolding most mostIn bounds
 limits m w = record {
   numblkscod = w .below NUMBLKSCOD;
   numblks = w .below NUMBLKS;
+  block = w .below BLK;
   channel = w .below CH;
   nfchans = w .below NFCHANS;
   spxbegf = w .below SPXBEGF;
@@ -152,7 +154,7 @@ module _ (permits : Test) where
       (cond (eqb k Endmants) (may permits CPLSTRT 0 0 217 && (may permits CPLEND 0 0 253 && may permits ENDMANT 4 0 262))
       (cond (eqb k Defaults) (mayAll BAI-SENT (1 ∷ 2 ∷ 1 ∷ 1 ∷ 2 ∷ 7 ∷ []))
       (cond (eqb k Allocation) true
-      (cond (eqb k AhtRead) (may permits AHT-TAGS 0 0 65535 && may permits AHT-READ 6 1 1)
+      (cond (eqb k AhtRead) (may permits AHT-TAGS 0 0 65535 && (may permits SLOT-BITS 47 0 65535 && may permits AHT-READ 6 1 1))
       true))))))))))))))))
 
   -- one put more: of any value; of one in a range
@@ -350,14 +352,19 @@ module _ (permits : Test) where
     marked true x k b h g = ranged m x (AHT-READ + k) 1 AHT-READ 6 1 1 g h (omega arith) (omega arith) (omega arith, omega arith) (omega arith)
     marked false x k b h g = g
 
-    aht-read-changes : (may permits AHT-TAGS 0 0 65535 && may permits AHT-READ 6 1 1) ≡ true → Changed permits m (ahtReadBy m)
+    aht-read-changes : (may permits AHT-TAGS 0 0 65535 && (may permits SLOT-BITS 47 0 65535 && may permits AHT-READ 6 1 1)) ≡ true → Changed permits m (ahtReadBy m)
     unfolding ahtReadBy
     aht-read-changes h =
-        let t = both (may permits AHT-TAGS 0 0 65535) (may permits AHT-READ 6 1 1) h in
-        let y = putIn m AHT-TAGS (cellOf m AHT-TAGS + cellOf m TAGS) in
+        let u = both (may permits AHT-TAGS 0 0 65535) (may permits SLOT-BITS 47 0 65535 && may permits AHT-READ 6 1 1) h in
+        let t = both (may permits SLOT-BITS 47 0 65535) (may permits AHT-READ 6 1 1) (u .1) in
+        let v = putIn m AHT-TAGS (cellOf m AHT-TAGS + cellOf m TAGS) in
+        let y = eachOf slotBitsOf 7 v in
         let z = eachOf readOf (channelsOf m) y in
         marked (flagOf z LFEON && flagOf z (AHTINU + 6)) z 6 (omega arith) (t .1)
-        (each m y readOf 5 (channelsOf m) (any m m AHT-TAGS _ AHT-TAGS 0 same (t .0) (omega arith) (omega arith))
+        (each m y readOf 5 (channelsOf m)
+        (each m v slotBitsOf 7 7 (any m m AHT-TAGS _ AHT-TAGS 0 same (u .0) (omega arith) (omega arith))
+        (λ slot x i g. let b = limits x (g .within) .block in any m x (SLOT-BITS + 8 * cellOf x BLK + slot) _ SLOT-BITS 47 g (t .0) (omega arith) (omega arith))
+        (omega arith))
         (λ ch x i g.
         let u = markedIn (flagOf x (AHTINU + ch)) (AHT-READ + ch) x in
         marked (coupledIn u ch && flagOf u (AHTINU + 5)) u 5 (omega arith) (t .1) (marked (flagOf x (AHTINU + ch)) x ch (omega arith) (t .1) g))

@@ -6,10 +6,11 @@ use mathlib.Core.Logic.{_⊎_, inl, inr}
 use Prim.Native.Nat.{ℕ, zero, suc, _+_, _-_, _*_, _%_, _^_, max, _≤_, _<_}
 use native.Mathlib.Omega.{arith}
 use lib.Dec.{eqb, ltb}
+use lib.ListN.{length, getD}
 use borrow.Author.Tests.{eqb-true, eqb-false, ltb-true, not-true}
 use Rattle.reading.specs.Run.{Entry}
 use Rattle.slots.specs.Held.{Bins, bins}
-use Rattle.cells.specs.Cells.{State, state, Addr, cellOf, putIn, stored, placeOf, heldOf}
+use Rattle.cells.specs.Cells.{State, state, Addr, cellOf, putIn, putsIn, stored, placeOf, heldOf}
 use Rattle.rows.specs.Syntax.{Count, Fixed, Held, Value, Here, Let, Less, Plus, Minus, Item, Block, element, elements, span, mantissas, exponents, when, each, reject, reject-at, put, fill, derive, end, _⨾_, countOf, amountOf, filled}
 use Rattle.bounds.specs.Along.{Point}
 use Rattle.bounds.specs.Bounds.{tagsMost, Within}
@@ -175,6 +176,22 @@ unfolding mayFill filled
 fill-changes permits m k v zero a z w h c d = changed-none permits m w
 fill-changes permits m k v (suc n) a z w h c d = filled-changes permits m k v n (suc n) a z w h (omega arith) c d
 
+-- numbers put one after another: any, and those that the mantissas tell
+listed-changes : (permits : Test) (m : List ℕ) (k : ℕ) (vs : List ℕ) (lo n : ℕ) → Within m → may permits lo n 0 65535 ≡ true → lo ≤ k → k + length vs ≤ suc (lo + n) → Changed permits m (putsIn m k vs)
+unfolding putsIn
+listed-changes permits m k [] lo n w h i j = changed-none permits m w
+listed-changes permits m k (v ∷ vs) lo n w h i j =
+    let g = puts permits m k v lo n 0 65535 w h i (omega arith) (omega arith) (omega arith) in
+    changed-then permits m (putIn m k v) (putsIn (putIn m k v) (suc k) vs) g (listed-changes permits (putIn m k v) (suc k) vs lo n (g .within) h (omega arith) (omega arith))
+
+pub told-changes : (permits : Test) (m : List ℕ) (k : ℕ) (vs : List ℕ) (lo n : ℕ) → Within m → length vs ≡ 8 → getD vs 0 0 ≤ tagsMost
+    → may permits lo n 0 tagsMost ≡ true → may permits (suc lo) (n + 6) 0 65535 ≡ true → lo ≤ k → k ≤ lo + n → Changed permits m (putsIn m k vs)
+unfolding putsIn
+told-changes permits m k [] lo n w e t h f i j = absurd (let z : ⊥ = omega arith in z)
+told-changes permits m k (v ∷ vs) lo n w e t h f i j =
+    let g = puts permits m k v lo n 0 tagsMost w h i j (omega arith) (omega arith) in
+    changed-then permits m (putIn m k v) (putsIn (putIn m k v) (suc k) vs) g (listed-changes permits (putIn m k v) (suc k) vs (suc lo) (n + 6) (g .within) f (omega arith) (omega arith))
+
 -- the items of which what is asked along a reading follows from the bounds
 module _ (byBounds : Item → Bool) where
   unfoldable mutual
@@ -183,7 +200,7 @@ module _ (byBounds : Item → Bool) where
     fitsIn permits (elements name i w a k f n) ks =
         byBounds (element name i w a) && (may permits k 0 0 (upTo ks n - 1) && may permits (a .base) (spread a ((k, 0, upTo ks n - 1) ∷ [])) 0 (2 ^ w - 1))
     fitsIn permits (span name k) ks = true
-    fitsIn permits (mantissas name a) ks = may permits (a .base) (spread a ks) 0 tagsMost
+    fitsIn permits (mantissas name a) ks = may permits (a .base) (spread a ks) 0 tagsMost && may permits (suc (a .base)) (spread a ks + 6) 0 65535
     fitsIn permits (exponents s name i) ks = true
     fitsIn permits (when c b) ks = fits permits b ks
     fitsIn permits (each k i n b) ks =
@@ -256,8 +273,16 @@ module _ (byBounds : Item → Bool) where
           (λ j x q fs r d. record { reached = d; knows = tt })
       fits-item permits (span name k) ks h st p es w f = walked-span s l Q name k st p es (λ q fs g. next-same permits ks st (st .bins) es fs q w f g)
       fits-item permits (mantissas name a) ks h st p es w f =
+          let t = both (may permits (a .base) (spread a ks) 0 tagsMost) (may permits (suc (a .base)) (spread a ks + 6) 0 65535) h in
+          let s′ = spreads a ks (st .cells) w f in
           walked-mantissas s l Q name a st p es
-          (λ v q fs t g. record { reached = next-put permits a v 0 tagsMost ks st es fs q w f h (omega arith) (omega arith) g .reached; knows = tt })
+          (λ vs q fs n v g. record {
+            reached = record {
+              changed = told-changes permits (st .cells) (placeOf a (st .cells)) vs (a .base) (spread a ks) w n v (t .0) (t .1) (s′ .0) (s′ .1);
+              grows = g;
+            };
+            knows = tt;
+          })
       fits-item permits (exponents x name i) ks h st p es w f = walked-exponents s l Q x name i st p es (λ e q fs g. next-same permits ks st (bins e (st .bins .baps)) es fs q w f g)
       fits-item permits (when c b) ks h st p es w f =
           walked-when s l Q c b st p es

@@ -1,4 +1,5 @@
 pub mod Cells
+pub mod Spent
 pub mod Tags
 pub mod Walking
 pub mod Bounds

@@ -1,11 +1,11 @@
--- How many tags the mantissas of a block can have: six in each of 253 bins of seven slots. Assumes nothing.
-use mathlib.Core.Path.{_≡_, subst}
+-- What the mantissas of a block tell: how many tags they can have, six in each of 253 bins of seven slots; and eight numbers. Assumes nothing.
+use mathlib.Core.Path.{_≡_, ap, subst, _∙_}
 use mathlib.Core.Bool.{Bool, true, false, cond, not, _&&_, _||_}
 use mathlib.Core.List.{List, []}
 use Prim.Native.Nat.{ℕ, zero, suc, _+_, _-_, _*_, _^_, min, _≤_}
 use native.Mathlib.Omega.{arith}
 use lib.Dec.{leb, ltb, eqb}
-use lib.ListN.{getD}
+use lib.ListN.{length, getD, length-set, length-replicate}
 use Rattle.bits.specs.Bits.{bitsAt}
 use Rattle.reading.specs.Tree.{Skim, stop, fail, at, take, _>>-_}
 use Rattle.reading.specs.Run.{accepted, refused, out, skim}
@@ -13,6 +13,7 @@ use Rattle.tables.specs.Small.{gaqBits}
 use Rattle.slots.specs.Slots.{CPL, LFE, rangeOf, readOf}
 use Rattle.slots.specs.declared.Shape.{Shape}
 use Rattle.slots.specs.declared.Range.{Range}
+use Rattle.skim.specs.Counted.{Counted, counted, counting}
 use Rattle.mantissas.specs.Mantissas.{conventionalOf}
 use Rattle.hybrid.specs.Hybrid.{activeIn, gainsOf, smallOf, largeOf, premantissaOf, premantissasOf, binOf, binsOf, ahtOf}
 use Rattle.plan.specs.Plan.{Along, visitOf, visitIf, slotsOf, mantissasOf}
@@ -61,6 +62,10 @@ tells-more P Q (stop a) f h = f a h
 tells-more P Q (fail n) f h = tt
 tells-more P Q (at k) f h = λ p. tells-more P Q (k p) f (h p)
 tells-more P Q (take w k) f h = λ v. tells-more P Q (k v) f (h v)
+
+tells-counting : {A : Type 0} (P : A → Type 0) (Q : Counted A → Type 0) (s : Skim A) → Tells P s → ((a : A) (n : ℕ) → P a → Q (counted a n)) → Tells Q (counting s)
+unfolding counting
+tells-counting P Q s h f = λ p. tells-bind P Q s (λ a. at (λ q. stop (counted a (q - p)))) h (λ a k q. f a (q - p) k)
 
 tags-one : (m gain : ℕ) → Tells (λ t. t ≤ 1) (premantissaOf m gain)
 unfolding premantissaOf
@@ -121,8 +126,8 @@ module _ (baps : List ℕ) (shape : Shape) where
       let r : n ≤ 253 = let z = bins-most shape slot in omega arith in
       tells-if (λ b. b .tags ≤ a .tags + 1518) (readOf shape slot) _ _ (let z : a .tags ≤ a .tags + 1518 = omega arith in z)
       (tells-if (λ b. b .tags ≤ a .tags + 1518) (getD (shape .ahtinu) slot false) _ _
-      (tells-bind (λ t. t ≤ 6 * n) (λ b. b .tags ≤ a .tags + 1518) (ahtOf baps slot _ n) _ (tags-aht baps slot _ n) (λ t h. let z : a .tags + t ≤ a .tags + 1518 = omega arith in z))
-      (tells-bind (λ _. Unit {0}) (λ b. b .tags ≤ a .tags + 1518) (conventionalOf baps slot _ n (a .groups)) _ (tells-any (conventionalOf baps slot _ n (a .groups))) (λ g _. let z : a .tags ≤ a .tags + 1518 = omega arith in z)))
+      (tells-bind (λ t. t .told ≤ 6 * n) (λ b. b .tags ≤ a .tags + 1518) (counting (ahtOf baps slot _ n)) _ (tells-counting (λ t. t ≤ 6 * n) (λ t. t .told ≤ 6 * n) (ahtOf baps slot _ n) (tags-aht baps slot _ n) (λ t k h. h)) (λ t h. let z : a .tags + t .told ≤ a .tags + 1518 = omega arith in z))
+      (tells-bind (λ _. Unit {0}) (λ b. b .tags ≤ a .tags + 1518) (counting (conventionalOf baps slot _ n (a .groups))) _ (tells-any (counting (conventionalOf baps slot _ n (a .groups)))) (λ g _. let z : a .tags ≤ a .tags + 1518 = omega arith in z)))
 
   -- if it is wanted
   some : Bool → ℕ
@@ -165,7 +170,39 @@ module _ (baps : List ℕ) (shape : Shape) where
       tells-more (λ v. getD v 0 0 ≤ 0 + 1518 * (min (shape .nfchans) 5 + 1 + 1)) (λ v. getD v 0 0 ≤ tagsMost) (slotsOf baps shape 0 (min (shape .nfchans) 5) false _) (λ v h. omega arith)
       (tags-slots 0 (min (shape .nfchans) 5) false _)
 
--- so the tags that a reading tells of a block
+  -- the bits of seven slots, wherever the walk comes
+  abbrev Seven : Along → Type 0
+  Seven a = length (a .bits) ≡ 7
+
+  seven-visit : (slot : ℕ) (a : Along) → Seven a → Tells Seven (visitOf baps shape slot a)
+  unfolding visitOf
+  seven-visit slot a h =
+      tells-if Seven (readOf shape slot) _ _ h
+      (tells-if Seven (getD (shape .ahtinu) slot false) _ _
+      (tells-bind (λ _. Unit {0}) Seven (counting (ahtOf baps slot _ _)) _ (tells-any (counting (ahtOf baps slot _ _))) (λ t _. length-set (a .bits) slot (t .bits) ∙ h))
+      (tells-bind (λ _. Unit {0}) Seven (counting (conventionalOf baps slot _ _ (a .groups))) _ (tells-any (counting (conventionalOf baps slot _ _ (a .groups)))) (λ g _. length-set (a .bits) slot (g .bits) ∙ h)))
+
+  seven-if : (c : Bool) (slot : ℕ) (a : Along) → Seven a → Tells Seven (visitIf baps shape c slot a)
+  unfolding visitIf
+  seven-if true slot a h = seven-visit slot a h
+  seven-if false slot a h = h
+
+  eight-slots : (ch n : ℕ) (got : Bool) (a : Along) → Seven a → Tells (λ v. length v ≡ 8) (slotsOf baps shape ch n got a)
+  unfolding slotsOf
+  eight-slots ch zero got a h = tells-bind Seven (λ v. length v ≡ 8) (visitIf baps shape (shape .lfeon) LFE a) _ (seven-if (shape .lfeon) LFE a h) (λ b k. ap suc k)
+  eight-slots ch (suc n) got a h =
+      tells-bind Seven _ (visitIf baps shape true ch a) _ (seven-if true ch a h)
+      (λ b k. tells-bind Seven _ (visitIf baps shape _ CPL b) _ (seven-if _ CPL b k) (λ c i. eight-slots (suc ch) n _ c i))
+
+  eight-block : Tells (λ v. length v ≡ 8) (mantissasOf baps shape)
+  unfolding mantissasOf
+  eight-block = eight-slots 0 (min (shape .nfchans) 5) false _ (length-replicate {A = ℕ} 7 0)
+
+-- so the numbers that a reading tells of a block, and the tags among them
+pub eight-told : (st : State) (b : List ℕ) (p l : ℕ) (v : List ℕ) → skim (mantissasIn st) b p l .result ≡ accepted v → length v ≡ 8
+unfolding mantissasIn
+eight-told st b p l v e = tells-skim (λ v. length v ≡ 8) (mantissasIn st) (eight-block (st .bins .baps) _) b p l v e
+
 pub tags-most : (st : State) (b : List ℕ) (p l : ℕ) (v : List ℕ) → skim (mantissasIn st) b p l .result ≡ accepted v → getD v 0 0 ≤ tagsMost
 unfolding mantissasIn
 tags-most st b p l v e = tells-skim (λ v. getD v 0 0 ≤ tagsMost) (mantissasIn st) (tags-block (st .bins .baps) _) b p l v e

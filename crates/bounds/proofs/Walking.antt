@@ -6,7 +6,7 @@ use mathlib.Core.Logic.{inl, inr}
 use Prim.Native.Nat.{ℕ, zero, suc, _+_, _-_, _*_, _^_, max, _≤_, _<_}
 use native.Mathlib.Omega.{arith}
 use lib.Dec.{leb, eqb}
-use lib.ListN.{getD}
+use lib.ListN.{length, getD}
 use Rattle.bits.specs.Bits.{bitsAt}
 use Rattle.bits.proofs.BitLaws.{bitsAt-lt}
 use Rattle.reading.specs.Tree.{Part, Tree, done, refuse, ahead, _>>=_}
@@ -14,13 +14,13 @@ use Rattle.reading.specs.Run.{Entry, region, Result, accepted, refused, Outcome
 use Rattle.reading.proofs.Runs.{run-bind}
 use Rattle.slots.specs.Held.{bins}
 use Rattle.exponents.specs.Set.{setOf}
-use Rattle.cells.specs.Cells.{State, state, Addr, Sum, cellOf, stored, placeOf, heldOf, sumOf, partOf}
+use Rattle.cells.specs.Cells.{State, state, Addr, Sum, cellOf, stored, storedAll, placeOf, heldOf, sumOf, partOf}
 use Rattle.derivations.specs.Derivations.{derived}
 use Rattle.derivations.specs.Sets.{exponentsOf}
 use Rattle.derivations.specs.Mantissas.{mantissasIn}
 use Rattle.rows.specs.Syntax.{Cond, Count, Value, Item, Block, element, elements, span, mantissas, exponents, when, each, reject, reject-at, put, fill, derive, end, _⨾_, _⧺_, none, holdsOf, countOf, amountOf, turns, filled, one, item, meaning}
 use Rattle.bounds.specs.Bounds.{tagsMost}
-use Rattle.bounds.proofs.Tags.{tags-most}
+use Rattle.bounds.proofs.Tags.{eight-told, tags-most}
 use Rattle.bounds.specs.Along.{Point, Has, Then, Turning, Inside, Along}
 
 -- the records so far only grow
@@ -193,9 +193,9 @@ module _ (s : List ℕ) (l : ℕ) (Q : Item → Point) where
   }
 
   pub walked-mantissas : (name : ℕ) (a : Addr) (st : State) (p : ℕ) (es : List Entry) {R : Point}
-      → ((v q : ℕ) (fs : List Entry) → v ≤ tagsMost → Grows es fs → R (stored st (placeOf a (st .cells)) v) q fs) → Walked (mantissas name a) st p es R
+      → ((vs : List ℕ) (q : ℕ) (fs : List Entry) → length vs ≡ 8 → getD vs 0 0 ≤ tagsMost → Grows es fs → R (storedAll st (placeOf a (st .cells)) vs) q fs) → Walked (mantissas name a) st p es R
   unfolding Inside item run after
-  walked-mantissas name a st p es {R} h = record { inside = tt; ends = go (O .result) (λ v e. tags-most st s p l v e) }
+  walked-mantissas name a st p es {R} h = record { inside = tt; ends = go (O .result) (λ v e. (eight-told st s p l v e, tags-most st s p l v e)) }
     where
       O : Outcome (List ℕ)
       O = skim (mantissasIn st) s p l
@@ -204,13 +204,13 @@ module _ (s : List ℕ) (l : ℕ) (Q : Item → Point) where
       x = partOf name none (st .cells)
 
       F : List ℕ → ℕ → Outcome State
-      F v e = cons (region x p (e - p)) (out (accepted (stored st (placeOf a (st .cells)) (getD v 0 0))) e [])
+      F v e = cons (region x p (e - p)) (out (accepted (storedAll st (placeOf a (st .cells)) v)) e [])
 
-      go : (r : Result (List ℕ)) → ((v : List ℕ) → r ≡ accepted v → getD v 0 0 ≤ tagsMost) → (c : State) → andThen r (O .place) (O .records) F .result ≡ accepted c
+      go : (r : Result (List ℕ)) → ((v : List ℕ) → r ≡ accepted v → (length v ≡ 8) × (getD v 0 0 ≤ tagsMost)) → (c : State) → andThen r (O .place) (O .records) F .result ≡ accepted c
           → R c (andThen r (O .place) (O .records) F .place) (es ++ andThen r (O .place) (O .records) F .records)
       go (accepted v) t c e =
-          let z : stored st (placeOf a (st .cells)) (getD v 0 0) ≡ c = cc in
-          subst (λ y. R y (O .place) (es ++ (O .records ++ (region x p (O .place - p) ∷ [])))) z (h (getD v 0 0) (O .place) _ (t v refl) (grows-append es _))
+          let z : storedAll st (placeOf a (st .cells)) v ≡ c = cc in
+          subst (λ y. R y (O .place) (es ++ (O .records ++ (region x p (O .place - p) ∷ [])))) z (h v (O .place) _ (t v refl .0) (t v refl .1) (grows-append es _))
       go (refused n) t c e = absurd (let z : _≡_ {A = ℕ} 0 1 = cc in omega arith)
 
   pub walked-exponents : (x : Sum) (name : ℕ) (i : Sum) (st : State) (p : ℕ) (es : List Entry) {R : Point}

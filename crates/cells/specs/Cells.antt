@@ -1,7 +1,7 @@
 -- The cells: what a reading keeps of the elements that it has read, and what is derived from them; and the exponents and pointers.
-use Prim.Native.Nat.{ℕ, _+_, _-_, _*_, _%_}
+use Prim.Native.Nat.{ℕ, suc, _+_, _-_, _*_, _%_}
 use mathlib.Core.Bool.{cond}
-use mathlib.Core.List.{List}
+use mathlib.Core.List.{List, [], _∷_}
 use lib.Dec.{eqb}
 use lib.IntN.{ℤ, pos, negsuc}
 use lib.ListN.{set, getD}
@@ -52,6 +52,14 @@ sumOf s m = s .number + cellOf m (s .cell)
 -- a state with a value put into a cell
 abbrev pub stored : State → ℕ → ℕ → State
 stored st k v = state (putIn (st .cells) k v) (st .bins)
+
+-- numbers put into cells one after another, from the cell k on
+unfoldable pub putsIn : List ℕ → ℕ → List ℕ → List ℕ
+putsIn m k [] = m
+putsIn m k (v ∷ vs) = putsIn (putIn m k v) (suc k) vs
+
+abbrev pub storedAll : State → ℕ → List ℕ → State
+storedAll st k vs = state (putsIn (st .cells) k vs) (st .bins)
 
 -- a part of a record is one less than n, -1 for none
 abbrev pub signed : ℕ → ℕ → ℤ

@@ -499,33 +499,37 @@ SKIPL = 492
 abbrev pub MANTISSA-STARTS : ℕ
 MANTISSA-STARTS = 493
 
--- the GAQ tags of a block
+-- [8] what the walk of a block's mantissas tells: its GAQ tags, and the bits of each slot
 abbrev pub TAGS : ℕ
 TAGS = 499
 
+-- [48] the bits of the slots, by block, in rows of eight
+abbrev pub SLOT-BITS : ℕ
+SLOT-BITS = 507
+
 -- the GAQ tags so far
 abbrev pub AHT-TAGS : ℕ
-AHT-TAGS = 500
+AHT-TAGS = 555
 
 -- the bit after the last block
 abbrev pub AUDIO-END : ℕ
-AUDIO-END = 501
+AUDIO-END = 556
 
 -- the bit after the frame
 abbrev pub FRAME-END : ℕ
-FRAME-END = 502
+FRAME-END = 557
 
 -- how many bits follow the audio
 abbrev pub AFTER-AUDIO : ℕ
-AFTER-AUDIO = 503
+AFTER-AUDIO = 558
 
 -- auxdatae, looked at ahead
 abbrev pub AUXDATAE : ℕ
-AUXDATAE = 504
+AUXDATAE = 559
 
 -- the bit after auxdatae
 abbrev pub AFTER-AUXDATAE : ℕ
-AFTER-AUXDATAE = 505
+AFTER-AUXDATAE = 560
 
 abbrev pub AUXDATAL : ℕ
-AUXDATAL = 506
+AUXDATAL = 561

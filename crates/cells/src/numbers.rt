@@ -351,25 +351,28 @@ pub const SKIPL: usize = 492;
 // [6] by block
 pub const MANTISSA_STARTS: usize = 493;
 
-// the GAQ tags of a block
+// [8] what the walk of a block's mantissas tells: its GAQ tags, and the bits of each slot
 pub const TAGS: usize = 499;
 
+// [48] the bits of the slots, by block, in rows of eight
+pub const SLOT_BITS: usize = 507;
+
 // the GAQ tags so far
-pub const AHT_TAGS: usize = 500;
+pub const AHT_TAGS: usize = 555;
 
 // the bit after the last block
-pub const AUDIO_END: usize = 501;
+pub const AUDIO_END: usize = 556;
 
 // the bit after the frame
-pub const FRAME_END: usize = 502;
+pub const FRAME_END: usize = 557;
 
 // how many bits follow the audio
-pub const AFTER_AUDIO: usize = 503;
+pub const AFTER_AUDIO: usize = 558;
 
 // auxdatae, looked at ahead
-pub const AUXDATAE: usize = 504;
+pub const AUXDATAE: usize = 559;
 
 // the bit after auxdatae
-pub const AFTER_AUXDATAE: usize = 505;
+pub const AFTER_AUXDATAE: usize = 560;
 
-pub const AUXDATAL: usize = 506;
+pub const AUXDATAL: usize = 561;

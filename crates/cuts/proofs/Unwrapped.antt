@@ -3,18 +3,19 @@ use mathlib.Core.Path.{_≡_, refl, ap, sym, _∙_, subst}
 use mathlib.Core.Bool.{Bool, true, false, cond, not, _&&_, true≢false}
 use mathlib.Core.List.{List, [], _∷_}
 use mathlib.Core.Logic.{inl, inr}
-use Prim.Native.Nat.{ℕ, suc, _+_, _-_, _*_, _%_, _^_, _≤_, _<_}
+use Prim.Native.Nat.{ℕ, zero, suc, _+_, _-_, _*_, _%_, _^_, _≤_, _<_}
 use native.Mathlib.Omega.{arith}
 use native.Mathlib.Nat.{mul-le-mul-left, mul-le-mul-right}
 use lib.Dec.{eqb, leb, ltb}
-use lib.ListN.{length}
+use lib.ListN.{length, getD}
 use borrow.Author.Tests.{leb-true, not-false}
-use Rattle.reading.specs.Run.{Entry}
+use Rattle.reading.specs.Run.{Entry, accepted, skim}
 use Rattle.cells.specs.Cells.{State, Addr, cellOf, putIn, stored, placeOf, heldOf}
-use Rattle.cells.specs.Names.{AHT-READ, AHT-TAGS, AHTINU, BLK, CPL-BLOCKS, CPL-SUBND-END, CPLBEGF, CPLBNDSTRC, CPLINUS, FRMSIZ, LFEON, NUMBLKS, SPX-BEGIN, SPX-BLOCKS, SPX-END, SPXBNDSTRC, TAGS}
+use Rattle.cells.specs.Names.{AHT-READ, AHT-TAGS, AHTINU, BLK, CPL-BLOCKS, CPL-SUBND-END, CPLBEGF, CPLBNDSTRC, CPLINUS, FRMSIZ, LFEON, NUMBLKS, SLOT-BITS, SPX-BEGIN, SPX-BLOCKS, SPX-END, SPXBNDSTRC, TAGS}
 use Rattle.sideinfo.specs.Steps.{eachOf}
 use Rattle.sideinfo.specs.Frames.{holding, powersBelow}
-use Rattle.sideinfo.specs.Blocks.{flagOf, coupledIn, channelsOf, markedIn, readOf, ahtReadBy}
+use Rattle.sideinfo.specs.Blocks.{flagOf, coupledIn, channelsOf, markedIn, readOf, slotBitsOf, ahtReadBy}
+use Rattle.derivations.specs.Mantissas.{mantissasIn}
 use Rattle.derivations.specs.Derivations.{AhtRead, derived}
 use Rattle.rows.specs.Syntax.{Count, Fixed, Held, Value, Here, Let, Less, Plus, Minus, Item, Block, element, elements, span, mantissas, exponents, when, each, reject, reject-at, put, fill, derive, _⧺_, cell, amountOf, meaning}
 use Rattle.annex.specs.Syncinfo.{syncinfo}
@@ -37,6 +38,7 @@ use Rattle.bounds.proofs.Reaches.{run-reaches}
 use Rattle.bounds.proofs.Derived.{limits, sum-most, flag-most, fitsDerived, derived-changes}
 use Rattle.bounds.proofs.Fits.{fits-block}
 use Rattle.unmet.proofs.Leaves.{Ranges, outside, leaves, leaves-same, firstItems, afterItems, place-cell, held-cell}
+use Rattle.bounds.proofs.Spent.{bits-most}
 use Rattle.bounds.proofs.Tags.{tags-most}
 use Rattle.bounds.proofs.Walking.{Walks, walks-end, walks-next, walks-map, walks-append, walked-when, walked-put, walked-derive, walked-each}
 
@@ -107,13 +109,17 @@ puts-fit-by k m w t =
       aht-read = t;
     }
 
-module _ (s : List ℕ) (l : ℕ) where
+module _ (s : List ℕ) (l : ℕ) (short : l ≤ farthest) where
   by-bounds : (i : Item) (st : State) (p : ℕ) (es : List Entry) → small i ≡ true → Within (st .cells) → Rest s l i st p es
   unfolding small counts-to
   by-bounds (element name i w a) st p es h k q c = leb-true (2 ^ w) word h
   by-bounds (elements name i w a j f n) st p es h k q c = omega (arith, k .below n, most-word n)
   by-bounds (span name j) st p es h k q c = tt
-  by-bounds (mantissas name a) st p es h k q c = λ v e. omega (arith, tags-most st s p l v e)
+  by-bounds (mantissas name a) st p es h k q c = told
+    where
+      told : (v : List ℕ) → skim (mantissasIn st) s p l .result ≡ accepted v → (i : ℕ) → getD v i 0 < word
+      told v e zero = omega (arith, tags-most st s p l v e)
+      told v e (suc i) = omega (arith, bits-most st s p l farthest q short v e i)
   by-bounds (exponents x name i) st p es h k q c = tt
   by-bounds (when d b) st p es h k q c = tt
   by-bounds (each j i (Fixed n) b) st p es h k q c = leb-true n word h
@@ -249,21 +255,26 @@ module _ (s : List ℕ) (l : ℕ) where
       (λ y q fs d. walks-end s l Counted y q fs d)
 
 -- the tags after the slots that are read are marked
-read-tags : (m : List ℕ) → length m ≡ 1024 → cellOf (ahtReadBy m) AHT-TAGS ≡ (cellOf m AHT-TAGS + cellOf m TAGS) % 65536
+read-tags : (m : List ℕ) → length m ≡ 1024 → cellOf m BLK ≤ 5 → cellOf (ahtReadBy m) AHT-TAGS ≡ (cellOf m AHT-TAGS + cellOf m TAGS) % 65536
 unfolding ahtReadBy
-read-tags m h =
+read-tags m h d =
     marks (flagOf z LFEON && flagOf z (AHTINU + 6)) z 6 (omega arith)
     ∙ each-within (λ x. cellOf x AHT-TAGS ≡ v % 65536) readOf (channelsOf m) y
     (λ ch x i e.
     let u = markedIn (flagOf x (AHTINU + ch)) (AHT-READ + ch) x in
     marks (coupledIn u ch && flagOf u (AHTINU + 5)) u 5 (omega arith) ∙ marks (flagOf x (AHTINU + ch)) x ch (omega arith) ∙ e)
-    (cell-at m AHT-TAGS v h (omega arith) (omega arith))
+    (each-within (λ x. (cellOf x AHT-TAGS ≡ v % 65536) × (cellOf x BLK ≤ 5)) slotBitsOf 7 (putIn m AHT-TAGS v)
+    (λ slot x i e. let k : SLOT-BITS + 8 * cellOf x BLK + slot < 1024 = omega (arith, e .1) in (
+      cell-beside x (SLOT-BITS + 8 * cellOf x BLK + slot) _ AHT-TAGS (omega arith) k (λ z. omega arith) ∙ e .0,
+      let z = cell-beside x (SLOT-BITS + 8 * cellOf x BLK + slot) (cellOf x (TAGS + 1 + slot)) BLK (omega arith) k (λ z. omega arith) in omega (arith, e .1),
+    ))
+    (cell-at m AHT-TAGS v h (omega arith) (omega arith), let z = cell-beside m AHT-TAGS v BLK (omega arith) (omega arith) (λ z. omega arith) in omega arith) .0)
   where
     v : ℕ
     v = cellOf m AHT-TAGS + cellOf m TAGS
 
     y : List ℕ
-    y = putIn m AHT-TAGS v
+    y = eachOf slotBitsOf 7 (putIn m AHT-TAGS v)
 
     z : List ℕ
     z = eachOf readOf (channelsOf m) y
@@ -294,7 +305,7 @@ read-counts a b c st h k =
     let x = derived AhtRead st .st .cells in
     let g : Changed (leaves blocksCounted) m x = derived-changes (leaves blocksCounted) AhtRead st (k .within) pass-read in
     let t : cellOf m TAGS ≤ tagsMost = omega (arith, k .within .below TAGS, tags-here) in
-    let e : cellOf x AHT-TAGS ≡ (cellOf m AHT-TAGS + cellOf m TAGS) % 65536 = ap (λ y. cellOf y AHT-TAGS) (read-is st) ∙ read-tags m (k .within .sized) in
+    let e : cellOf x AHT-TAGS ≡ (cellOf m AHT-TAGS + cellOf m TAGS) % 65536 = ap (λ y. cellOf y AHT-TAGS) (read-is st) ∙ read-tags m (k .within .sized) (limits m (k .within) .block) in
     record {
       within = g .within;
       spx = rw (leaves-same blocksCounted m x SPX-BLOCKS g (omega arith) (inl (omega arith, omega arith))) (k .spx);
@@ -377,7 +388,7 @@ module _ (s : List ℕ) (l : ℕ) (short : l ≤ farthest) where
   unwraps b h st p es w q c =
       along-both s l (λ i st p es. Counted i st p es → Unwrapped s l i st p es) Counted (Unwrapped s l) (λ i st p es f k. f k) b st p es
       (along-both s l (Rest s l) (Place s l farthest short) (λ i st p es. Counted i st p es → Unwrapped s l i st p es) (λ i st p es f k. f k) b st p es
-      (fits-block small s l (Rest s l) (by-bounds s l) everything b [] h st p es w tt .along) (along-place s l farthest short b st p es q))
+      (fits-block small s l (Rest s l) (by-bounds s l short) everything b [] h st p es w tt .along) (along-place s l farthest short b st p es q))
       c
 
 pub nothing-wraps : NothingWraps

@@ -38,7 +38,7 @@ abbrev pub Unwrapped : List ℕ → ℕ → Item → Point
 Unwrapped s l (element name i w a) st p es = 2 ^ w ≤ word
 Unwrapped s l (elements name i w a k f n) st p es = cellOf (st .cells) n ≤ word
 Unwrapped s l (span name k) st p es = Unit {0}
-Unwrapped s l (mantissas name a) st p es = (v : List ℕ) → skim (mantissasIn st) s p l .result ≡ accepted v → getD v 0 0 < word
+Unwrapped s l (mantissas name a) st p es = (v : List ℕ) → skim (mantissasIn st) s p l .result ≡ accepted v → (i : ℕ) → getD v i 0 < word
 Unwrapped s l (exponents x name i) st p es = Unit {0}
 Unwrapped s l (when c b) st p es = Unit {0}
 Unwrapped s l (each k i n b) st p es = countOf n (st .cells) ≤ word

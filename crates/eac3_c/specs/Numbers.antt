@@ -1,8 +1,8 @@
--- The answer as 34 numbers, for hosts outside.
+-- The answer as 76 numbers, for hosts outside.
 use mathlib.Core.Path.{_≡_}
 use mathlib.Core.Bool.{Bool, true, false}
 use mathlib.Core.List.{List, [], _∷_}
-use Prim.Native.Nat.{ℕ, zero, suc, _+_}
+use Prim.Native.Nat.{ℕ, zero, suc, _+_, _*_}
 use lib.ListN.{getD, set}
 use Rattle.reading.specs.Room.{Room, Out}
 use Rattle.cells.specs.Cells.{State}
@@ -10,6 +10,7 @@ use Rattle.bits.specs.declared.BitPlace.{BitPlace}
 use Rattle.answer.specs.Answer.{placeAt, answerOf, numberOf, placeOf, countOf}
 use Rattle.answer.specs.declared.Answer.{Answer}
 use Rattle.answer.specs.declared.Frame.{Frame}
+use Rattle.answer.specs.declared.SlotBits.{SlotBits}
 
 abbrev pub bitOf : Bool → ℕ
 bitOf true = 1
@@ -59,17 +60,26 @@ frameNumbers f =
     ∷ f .«cpl_blocks»
     ∷ []
 
--- a list with the first n of a frame's numbers from its fourth place on
-unfoldable pub framed : List ℕ → List ℕ → ℕ → List ℕ
-framed m vs zero = m
-framed m vs (suc n) = set (framed m vs n) (n + 3) (getD vs n 0)
+-- a list with the first n of some numbers from the place k on
+unfoldable pub written : List ℕ → ℕ → List ℕ → ℕ → List ℕ
+written m k vs zero = m
+written m k vs (suc n) = set (written m k vs n) (n + k) (getD vs n 0)
 
 -- a list with number, place and count in its first three places, and then the frame's numbers
 unfoldable pub laid : List ℕ → ℕ → ℕ → ℕ → List ℕ → List ℕ
-laid m number place count frame = framed (set (set (set m 0 number) 1 place) 2 count) frame 31
+laid m number place count frame = written (set (set (set m 0 number) 1 place) 2 count) 3 frame 31
+
+-- the bits of the slots of a block
+abbrev pub blockBits : List SlotBits → ℕ → List ℕ
+blockBits ts b = getD ts b (record { bits = [] }) .bits
+
+-- a list with the bits of the slots of the first n blocks, seven for each, from the place 34 on
+unfoldable pub bitsLaid : List ℕ → List SlotBits → ℕ → List ℕ
+bitsLaid m ts zero = m
+bitsLaid m ts (suc n) = written (bitsLaid m ts n) (34 + 7 * n) (blockBits ts n) 7
 
 abbrev pub laidOf : List ℕ → Answer → List ℕ
-laidOf m a = laid m (numberOf a) (placeOf a) (countOf a) (frameNumbers (a .frame))
+laidOf m a = bitsLaid (laid m (numberOf a) (placeOf a) (countOf a) (frameNumbers (a .frame))) (a .frame .«slot_bits») 6
 
 -- what the function tells: the number, the room as the reading left it, and the answer
 pub record Given (o : Out State) (r : ℕ) (m : Room) (before after : List ℕ) : Type 0 where

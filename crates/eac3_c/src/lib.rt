@@ -1,9 +1,11 @@
 // The reader for hosts outside: one C function over slices and numbers.
 ghost use mathlib.Core.Path.{_≡_};
+ghost use Prim.Native.Nat.{_≤_};
 ghost use Rattle.reading.specs.Room.{room};
 ghost use Rattle.eac3.specs.Called.{answered};
-ghost use Rattle.eac3_c.specs.Numbers.{bitOf, frameNumbers, laid, Given};
+ghost use Rattle.eac3_c.specs.Numbers.{bitOf, frameNumbers, written, laid, bitsLaid, Given};
 use answer::Frame;
+use answer::SlotBits;
 use answer::count_of;
 use answer::number_of;
 use answer::place_of;
@@ -20,7 +22,7 @@ fn flag(b: bool) -> u16
     if b { 1 } else { 0 }
 }
 
-// What the answer tells of a frame, as numbers.
+// What the answer tells of a frame, as numbers, but for the bits of the slots.
 pub fn numbers(f: Frame) -> [u16; 31]
     ensures { λ r. ⌜ r ≡ frameNumbers f ⌝ }
 {
@@ -62,7 +64,7 @@ pub fn numbers(f: Frame) -> [u16; 31]
 }
 
 // Writes three numbers and those of a frame.
-fn lay(out: &mut [u64; 34], number: u64, place: u64, count: u64, frame: [u16; 31])
+fn lay(out: &mut [u64; 76], number: u64, place: u64, count: u64, frame: [u16; 31])
     ensures { λ _. ⌜ now (out .exit) ≡ laid (now (out .entry)) number place count frame ⌝ }
 {
     out[0] = number;
@@ -72,6 +74,31 @@ fn lay(out: &mut [u64; 34], number: u64, place: u64, count: u64, frame: [u16; 31
     while i < 31 {
         out[i + 3] = wide(frame[i]);
         i += 1;
+    }
+}
+
+// Writes seven numbers from a place on.
+fn lay_seven(out: &mut [u64; 76], at: usize, numbers: [u16; 7])
+    requires { ⌜ at ≤ 69 ⌝ }
+    ensures { λ _. ⌜ now (out .exit) ≡ written (now (out .entry)) at numbers 7 ⌝ }
+{
+    let mut i: usize = 0;
+    while i < 7 {
+        out[i + at] = wide(numbers[i]);
+        i += 1;
+    }
+}
+
+// Writes the bits of the slots of six blocks.
+fn lay_bits(out: &mut [u64; 76], slots: [SlotBits; 6])
+    ensures { λ _. ⌜ now (out .exit) ≡ bitsLaid (now (out .entry)) slots 6 ⌝ }
+{
+    let mut block: usize = 0;
+    while block < 6 {
+        let here = slots[block];
+        let bits = here.bits;
+        lay_seven(out, 34 + 7 * block, bits);
+        block += 1;
     }
 }
 
@@ -85,7 +112,7 @@ pub extern "C" fn eac3_parse(
     firsts: &mut [u16],
     widths: &mut [u16],
     values: &mut [u32],
-    answer: &mut [u64; 34],
+    answer: &mut [u64; 76],
 ) -> u8
     ensures { λ r. ⌜ Given (answered (now (src .entry)) (room (now (names .entry)) (now (blocks .entry)) (now (indexes .entry)) (now (firsts .entry)) (now (widths .entry)) (now (values .entry)))) r
         (room (now (names .exit)) (now (blocks .exit)) (now (indexes .exit)) (now (firsts .exit)) (now (widths .exit)) (now (values .exit))) (now (answer .entry)) (now (answer .exit)) ⌝ }
@@ -103,5 +130,7 @@ pub extern "C" fn eac3_parse(
         count as u64,
         numbers(f),
     );
+    let slots = f.slot_bits;
+    lay_bits(answer, slots);
     number
 }

@@ -7,9 +7,13 @@ use Rattle.reading.specs.Run.{Outcome}
 use Rattle.skim.specs.Outcomes.{outcome}
 use Rattle.hybrid.specs.declared.Gains.{Gains}
 use Rattle.hybrid.specs.declared.Tagged.{Tagged}
+use Rattle.hybrid.specs.declared.Transformed.{Transformed}
 
 abbrev pub tagsOutcome : Tagged → Outcome ℕ
 tagsOutcome r = outcome (r .number) (r .tags) (r .place .0)
+
+abbrev pub slotOutcome : Transformed → Outcome ℕ
+slotOutcome r = outcome (r .number) (r .tags) (r .place .0)
 
 -- an array that holds the gains read so far, and gain 1 behind them
 abbrev pub Gained : List ℕ → List ℕ → Type 0

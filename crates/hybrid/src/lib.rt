@@ -2,6 +2,7 @@
 // clauses E.1.2.4, E.2.4.2 and E.2.4.4).
 use bits::BitPlace;
 use skim::Look;
+use skim::between;
 use skim::raw;
 ghost use mathlib.Core.Path.{_≡_};
 ghost use mathlib.Core.List.{List, []};
@@ -13,13 +14,21 @@ ghost use Rattle.tables.specs.Small.{vqBits, gaqBits};
 ghost use Rattle.reading.specs.Run.{skim};
 ghost use Rattle.hybrid.specs.Hybrid.{activeOf, activeIn, singlesOf, triplesOf, gainsOf, smallOf, largeOf, premantissaOf, premantissasOf, binOf, gainOf, nextActive, binsOf, ahtOf};
 ghost use Rattle.skim.specs.Outcomes.{outcome};
-ghost use Rattle.hybrid.specs.Outcomes.{tagsOutcome, Gained, GainsOutcome};
+ghost use Rattle.hybrid.specs.Outcomes.{tagsOutcome, slotOutcome, Gained, GainsOutcome};
 
 // A refusal number, or 0; the place; and the tags counted.
 pub struct Tagged {
     pub number: u8,
     pub place: BitPlace,
     pub tags: u16,
+}
+
+// Of a slot: a refusal number, or 0; the place; the tags; and the bits that it took, 0 after a refusal.
+pub struct Transformed {
+    pub number: u8,
+    pub place: BitPlace,
+    pub tags: u16,
+    pub bits: u16,
 }
 
 // A refusal number, or 0; the place; and the gains read, with gain 1 behind them.
@@ -390,9 +399,8 @@ fn read_bins(
     }
 }
 
-// The gain words, vector indexes and pre-mantissas of the bins `start` to `end` - 1 of a slot: refusal 8
-// at the first bit of what would pass `limit`, 13 for a composite gain above 26.
-pub fn aht(
+// Where the gain words, vector indexes and pre-mantissas of the bins of a slot end.
+fn read_slot(
     src: &[u8],
     baps: &[u8; 1792],
     slot: u8,
@@ -428,4 +436,36 @@ pub fn aht(
     }
     let gain = g.gain;
     read_bins(src, baps, slot, start, end, mode, &gain, place, limit)
+}
+
+// The bits between two places, 0 after a refusal.
+fn taken(number: u8, from: BitPlace, to: BitPlace) -> u16
+    ensures { λ r. ⌜ r ≡ cond (eqb number 0) (to .0 - from .0) 0 ⌝ }
+{
+    if number == 0 { between(from, to) } else { 0 }
+}
+
+// The gain words, vector indexes and pre-mantissas of the bins `start` to `end` - 1 of a slot: refusal 8
+// at the first bit of what would pass `limit`, 13 for a composite gain above 26.
+pub fn aht(
+    src: &[u8],
+    baps: &[u8; 1792],
+    slot: u8,
+    start: u16,
+    end: u16,
+    at: BitPlace,
+    limit: BitPlace,
+) -> Transformed
+    requires { ⌜ (length (now baps) ≡ 1792) × (slot < 7) × (end ≤ 256) × (limit .0 ≤ 8 * length (now src)) ⌝ }
+    ensures { λ r. ⌜ (slotOutcome r ≡ skim (ahtOf (now (baps .entry)) slot start (end - start)) (now (src .entry)) (at .0) (limit .0)) × (r .tags ≤ 1536) × (r .bits ≡ cond (eqb (r .number) 0) (r .place .0 - at .0) 0) ⌝ }
+{
+    let t = read_slot(src, baps, slot, start, end, at, limit);
+    let place = t.place;
+    let bits = taken(t.number, at, place);
+    Transformed {
+        number: t.number,
+        place: place,
+        tags: t.tags,
+        bits: bits,
+    }
 }

@@ -1,22 +1,22 @@
 -- What a row of input reads: looked at, recorded, stored. Assumes nothing.
-use Prim.Native.Nat.{ℕ, _+_, _-_, _%_, _≤_, _<_}
+use Prim.Native.Nat.{ℕ, suc, _+_, _-_, _%_, _≤_, _<_}
 use mathlib.Core.Bool.{Bool, true, false, cond}
 use mathlib.Core.Path.{_≡_, refl, sym, ap, ap₂, _∙_}
 use mathlib.Core.List.{List, [], _∷_}
 use native.Mathlib.Omega.{arith}
-use native.Mathlib.Decide.{decLe}
+use native.Mathlib.Decide.{decLe, ℕ-discrete}
+use native.Mathlib.Numerals.{add-one}
 use lib.Dec.{leb, ltb, eqb}
-use lib.ListN.{set, getD}
+use lib.ListN.{set}
 use lib.IntN.{ℤ, pos, negsuc}
 use mir.Val.{SFits, toZ, ofZ}
 use mir.Syntax.{w8, w16}
 use mir.Facts.{toZ-ofZ}
-use borrow.Author.Tests.{le-leb, lt-leb, lt-ltb, le-ltb, ltb-false, eq-eqb, ne-eqb, eqb-true}
+use borrow.Author.Tests.{le-leb, lt-leb, lt-ltb, le-ltb, ltb-false, eq-eqb, ne-eqb}
 use Rattle.bits.specs.Bits.{bitsAt}
 use Rattle.reading.specs.Tree.{Part, Tree, done, _>>=_}
-use Rattle.reading.specs.Run.{fieldOf, accepted, refused, Outcome, skim}
-use Rattle.reading.specs.Room.{Room, room, pushed, Out, got, record-in, skimmed-by, exec}
-use Rattle.reading.proofs.Laws.{skimmed}
+use Rattle.reading.specs.Run.{Field, fieldOf, Result, accepted, refused, Outcome, skim}
+use Rattle.reading.specs.Room.{Room, room, size, pushed, Out, got, record-in, skimmed-by, exec}
 use Rattle.reading.proofs.Rooms.{go-on, _then_, exec-bind}
 use Rattle.syntax.specs.Records.{part, outcome, goingAt, haltedAt}
 use Rattle.syntax.specs.Rooms.{Fills}
@@ -28,13 +28,13 @@ use Rattle.plan.specs.Taken.{taken}
 use Rattle.plan.specs.declared.Taken.{Taken}
 use Rattle.allocation.specs.Memo.{staleOf}
 use Rattle.allocation.proofs.MemoLaws.{memo-stale}
-use Rattle.cells.specs.Cells.{State, state, cellOf, putIn, placeOf, sumOf, stored, signed, partOf}
+use Rattle.cells.specs.Cells.{State, state, cellOf, putIn, placeOf, sumOf, stored, storedAll, putsIn, signed, partOf}
 use Rattle.cells.specs.Names.{ABSEXP, BLOCK}
 use Rattle.derivations.specs.Sets.{strategyOf, startOf, endOf, exponentsOf}
 use Rattle.derivations.specs.Mantissas.{mantissasIn}
 use Rattle.rows.specs.Rows.{nameIn, widthIn, indexIn, keepIn, regionIn, slotIn}
 use Rattle.rows.specs.Steps.{inputIn, setIn}
-use Rattle.inputs.specs.Reads.{Right, looked, bitsOf, passedOf, Skimmed, recorded, Keeps, Looks, Sees, Takes, Gathers, setBy}
+use Rattle.inputs.specs.Reads.{Right, looked, bitsOf, passedOf, passedBy, recorded, Keeps, Looks, Sees, Takes, Gathers, setBy}
 use Rattle.inputs.specs.declared.Look.{Look}
 use Rattle.inputs.specs.declared.Set.{Set}
 
@@ -54,21 +54,6 @@ module _ (l p d : ℕ) (b : Bool) (eb : b ≡ ltb l (p + d)) where
 
   pub bits-found : (s : List ℕ) → b ≡ false → (v : ℕ) → v ≡ bitsAt s p d → looked 0 (p + d) d v v ≡ bitsOf s l p d
   bits-found s h v e = rw (e, ← eb, h) refl
-
--- the mantissas
-module _ (s : List ℕ) (l p : ℕ) (st : State) (t : Taken) (e : taken t ≡ skim (mantissasIn st) s p l) where
-  pub mantissas-ahead : p ≤ t .place .0
-  mantissas-ahead = let z : t .place .0 ≡ skim (mantissasIn st) s p l .place = ap (λ (o : Outcome (List ℕ)). o .place) e in omega (arith, skimmed (mantissasIn st) s p l .ahead)
-
-  pub mantissas-past : ¬ (t .number ≡ 0) → (x : Look) → x ≡ looked (t .number) (t .place .0) 0 0 0 → Skimmed s l p st x
-  mantissas-past h x ex = rw ex (record {
-    is = sym e ∙ (rw (ne-eqb _ _ h) refl);
-    width = λ z. absurd (h z);
-    value = refl;
-  })
-
-  pub mantissas-found : t .number ≡ 0 → Skimmed s l p st (looked 0 (t .place .0) (t .place .0 - p) 0 (t .tags))
-  mantissas-found h = record { is = sym e ∙ (rw (eq-eqb _ _ h) refl); width = λ z. refl; value = refl }
 
 -- what a row of input finds, by its kind
 module _ (s : List ℕ) (l w : ℕ) (st : State) (p : ℕ) (x : Look) where
@@ -95,25 +80,6 @@ module _ (s : List ℕ) (l w : ℕ) (st : State) (p : ℕ) (x : Look) where
   unfolding exec inputIn
   looks-span h n d ed ex = record {
     is = λ q m. rw (le-ltb _ _ h, lt-ltb _ _ n, ex, ed) (test (p + cellOf (st .cells) (regionIn w)) l _ _ ∙ found (ltb l (p + cellOf (st .cells) (regionIn w))) (cellOf (st .cells) (regionIn w)) 0 q m);
-  }
-
-  walked-is : Skimmed s l p st x → (q : ℕ) (m : Room) → (b : Bool) → eqb (x .number) 0 ≡ b
-      → skimmed-by (cond b (accepted (x .stored ∷ [])) (refused (x .number))) (x .place .0) q m
-      (λ v e. record-in (fieldOf (partOf (nameIn w) (indexIn w) (st .cells)) p (e - p) 0) q m (λ n m. got (accepted (stored st (placeOf (keepIn w) (st .cells)) (getD v 0 0))) e n m))
-      ≡ cond b
-      (record-in (fieldOf (partOf (nameIn w) (indexIn w) (st .cells)) p (x .width) (x .value)) q m (λ n m. got (accepted (stored st (placeOf (keepIn w) (st .cells)) (x .stored))) (x .place .0) n m))
-      (got (refused (x .number)) (x .place .0) q m)
-  unfolding skimmed-by
-  walked-is h q m true e = rw (h .width (eqb-true _ _ e), h .value) refl
-  walked-is h q m false e = refl
-
-  pub looks-mantissas : 4 ≤ w % 16 → Skimmed s l p st x → Looks s l w st p x
-  unfolding exec inputIn
-  looks-mantissas h k = record {
-    is = λ q m. rw (le-ltb (w % 16) 3 (omega arith), le-ltb _ _ h) (
-        ap (λ (o : Outcome (List ℕ)). skimmed-by (o .result) (o .place) q m (λ v e. record-in (fieldOf (partOf (nameIn w) (indexIn w) (st .cells)) p (e - p) 0) q m (λ n m. got (accepted (stored st (placeOf (keepIn w) (st .cells)) (getD v 0 0))) e n m))) (k .is)
-        ∙ walked-is k q m (eqb (x .number) 0) refl
-        );
   }
 
 -- recorded and stored
@@ -151,14 +117,61 @@ pub takes : {s : List ℕ} {l w : ℕ} {cells : List ℕ} {p q : ℕ} {m : Room}
     → Sees s l w cells p x → Keeps w x cells p q m c cells′ m′ → Takes s l w cells p q m c cells′ m′
 takes {q} {m} h k = record { is = λ b. k .is b ∙ sym (h .is b .is q m) }
 
+-- a state that changes after what was read
+abbrev changed : (State → State) → Result State → Result State
+changed f (accepted st) = accepted (f st)
+changed f (refused n) = refused n
+
+abbrev after : (State → State) → Out State → Out State
+after f o = got (changed f (o .result)) (o .place) (o .count) (o .left)
+
+after-outcome : (f : State → State) (c : Cursor) (st : State) (m : Room) → outcome c (f st) m ≡ after f (outcome c st m)
+after-outcome f c st m = go (c .stopped)
+  where
+    go : (b : Bool) → got (cond b (refused (c .number)) (accepted (f st))) (c .at .0) (c .count) m ≡ got (changed f (cond b (refused (c .number)) (accepted st))) (c .at .0) (c .count) m
+    go true = refl
+    go false = refl
+
+-- the mantissas: their record, and then what their walk tells
+module _ (s : List ℕ) (l w : ℕ) (st : State) (p q : ℕ) (m : Room) (t : Taken) (e : taken t ≡ skim (mantissasIn st) s p l) where
+  abbrev behind : State → State
+  behind st′ = storedAll st′ (suc (placeOf (keepIn w) (st .cells))) (t .bits)
+
+  abbrev field : Field
+  field = fieldOf (partOf (nameIn w) (indexIn w) (st .cells)) p (t .place .0 - p) 0
+
+  kept : (b : Bool) → after behind (cond b (got (refused 33) p q m) (got (accepted (stored st (placeOf (keepIn w) (st .cells)) (t .tags))) (t .place .0) (q + 1) (pushed m q field)))
+      ≡ cond b (got (refused 33) p q m) (got (accepted (storedAll st (placeOf (keepIn w) (st .cells)) (t .tags ∷ t .bits))) (t .place .0) (q + 1) (pushed m q field))
+  unfolding putsIn
+  kept true = refl
+  kept false = refl
+
+  told : (x : Look) → x ≡ passedBy t p → 4 ≤ w % 16 → after behind (recorded w x st p q m) ≡ exec s l (inputIn w st) p q m
+  unfolding exec inputIn skimmed-by
+  told x ex h =
+      rw (le-ltb (w % 16) 3 (omega arith), le-ltb _ _ h, ex)
+      (go (ℕ-discrete (t .number) 0)
+      ∙ ap (λ (o : Outcome (List ℕ)). skimmed-by (o .result) (o .place) q m (λ v e. record-in (fieldOf (partOf (nameIn w) (indexIn w) (st .cells)) p (e - p) 0) q m (λ n m. got (accepted (storedAll st (placeOf (keepIn w) (st .cells)) v)) e n m))) e)
+    where
+      go : Dec (t .number ≡ 0) → after behind (recorded w (passedBy t p) st p q m)
+          ≡ skimmed-by (taken t .result) (taken t .place) q m (λ v e. record-in (fieldOf (partOf (nameIn w) (indexIn w) (st .cells)) p (e - p) 0) q m (λ n m. got (accepted (storedAll st (placeOf (keepIn w) (st .cells)) v)) e n m))
+      go (yes z) = rw (eq-eqb _ _ z) (kept (leb (size m) q))
+      go (no z) = rw (ne-eqb _ _ z, ne-eqb _ _ z) refl
+
 -- the mantissas, and a set of exponents
 module _ (s : List ℕ) (l w : ℕ) (exps baps cells mem : List ℕ) (right : Right mem (bins exps baps)) (p q : ℕ) (m : Room) where
-  pub gathers-mantissas : 4 ≤ w % 16 → w % 16 < 8 → (x : Look) → Skimmed s l p (state cells (bins exps baps)) x → (c : Cursor) (cells′ : List ℕ) (m′ : Room) → Keeps w x cells p q m c cells′ m′
-      → Gathers s l w (state cells (bins exps baps)) p q m c (state cells′ (bins exps baps)) m′ mem
-  gathers-mantissas lo hi x sk c cells′ m′ k = record {
-    is = k .is (bins exps baps) ∙ sym (looks-mantissas s l w (state cells (bins exps baps)) p x lo sk .is q m) ∙ (rw (lt-ltb _ _ hi) refl);
-    right = right;
-  }
+  pub gathers-mantissas : 4 ≤ w % 16 → w % 16 < 8 → (t : Taken) → taken t ≡ skim (mantissasIn (state cells (bins exps baps))) s p l → (x : Look) → x ≡ passedBy t p
+      → (c : Cursor) (cells′ : List ℕ) (m′ : Room) → Keeps w x cells p q m c cells′ m′ → (k : ℕ) → k ≡ placeOf (keepIn w) cells → (cells″ : List ℕ) → cells″ ≡ putsIn cells′ (k + 1) (t .bits)
+      → Gathers s l w (state cells (bins exps baps)) p q m c (state cells″ (bins exps baps)) m′ mem
+  gathers-mantissas lo hi t et x ex c cells′ m′ kp k ek cells″ ec =
+      let st = state cells (bins exps baps) in
+      record {
+        is = ap (λ (y : List ℕ). outcome c (state y (bins exps baps)) m′) (ec ∙ ap (λ j. putsIn cells′ j (t .bits)) (add-one k ∙ ap suc ek))
+            ∙ after-outcome (behind s l w st p q m t et) c (state cells′ (bins exps baps)) m′
+            ∙ ap (after (behind s l w st p q m t et)) (kp .is (bins exps baps))
+            ∙ told s l w st p q m t et x ex lo ∙ (rw (lt-ltb _ _ hi) refl);
+        right = right;
+      }
 
   -- of a set that was read, the state
   module _ (x : Set) (ex : x ≡ setBy w cells) (c : Cursor) (bu : List ℕ) (m′ : Room)

@@ -1,22 +1,22 @@
 -- What the functions ask that read and record, and what they tell.
 use Prim.Native.Nat.{ℕ, _+_, _-_, _*_, _%_, _≤_, _<_}
 use mathlib.Core.Bool.{cond}
-use mathlib.Core.List.{List, [], _∷_}
+use mathlib.Core.List.{List}
 use mathlib.Core.Path.{_≡_}
 use lib.Dec.{ltb, eqb}
 use lib.ListN.{length}
 use Rattle.bits.specs.Bits.{bitsAt}
-use Rattle.reading.specs.Run.{accepted, refused, out, skim, fieldOf}
+use Rattle.reading.specs.Run.{accepted, refused, fieldOf}
 use Rattle.reading.specs.Room.{Room, Out, got, record-in, exec}
 use Rattle.syntax.specs.Records.{outcome}
 use Rattle.syntax.specs.Rooms.{Fills}
 use Rattle.syntax.specs.declared.Cursor.{Cursor}
 use Rattle.slots.specs.Held.{Bins, Held}
+use Rattle.plan.specs.declared.Taken.{Taken}
 use Rattle.allocation.specs.Memo.{Memo}
 use Rattle.cells.specs.Cells.{State, state, cellOf, placeOf, sumOf, stored, signed, partOf}
 use Rattle.cells.specs.Names.{ABSEXP, BLOCK}
 use Rattle.derivations.specs.Sets.{strategyOf, startOf, endOf}
-use Rattle.derivations.specs.Mantissas.{mantissasIn}
 use Rattle.rows.specs.Rows.{nameIn, indexIn, keepIn, slotIn, widthIn}
 use Rattle.rows.specs.Steps.{inputIn, setIn}
 use Rattle.inputs.specs.declared.Look.{Look}
@@ -42,11 +42,9 @@ bitsOf s l p w = cond (ltb l (p + w)) (looked 8 p 0 0 0) (looked 0 (p + w) w (bi
 abbrev pub passedOf : ℕ → ℕ → ℕ → Look
 passedOf l p w = cond (ltb l (p + w)) (looked 8 p 0 0 0) (looked 0 (p + w) w 0 0)
 
--- the mantissas of the block
-pub record Skimmed (s : List ℕ) (l p : ℕ) (st : State) (x : Look) : Type 0 where
-  pub is : skim (mantissasIn st) s p l ≡ out (cond (eqb (x .number) 0) (accepted (x .stored ∷ [])) (refused (x .number))) (x .place .0) []
-  pub width : x .number ≡ 0 → x .width ≡ x .place .0 - p
-  pub value : x .value ≡ 0
+-- the mantissas of the block, from the place p on: a span, and the first number that their walk tells
+abbrev pub passedBy : Taken → ℕ → Look
+passedBy t p = cond (eqb (t .number) 0) (looked 0 (t .place .0) (t .place .0 - p) 0 (t .tags)) (looked (t .number) (t .place .0) 0 0 0)
 
 -- what is done with it: a record is made and a value is stored, or a refusal stands
 abbrev pub recorded : ℕ → Look → State → ℕ → ℕ → Room → Out State

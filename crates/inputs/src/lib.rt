@@ -1,14 +1,12 @@
 // Rows that read: bits are looked at, a record is made, a value is stored.
 ghost use mathlib.Core.Path.{_≡_};
-ghost use mathlib.Core.List.{List};
-ghost use Prim.Native.Nat.{ℕ, _*_, _%_, _≤_, _<_};
+ghost use Prim.Native.Nat.{_*_, _%_, _≤_, _<_};
 ghost use lib.ListN.{length};
 ghost use Rattle.reading.specs.Room.{room};
 ghost use Rattle.syntax.specs.Rooms.{Fills};
 ghost use Rattle.slots.specs.Held.{bins};
-ghost use Rattle.allocation.specs.Memo.{Tallies};
-ghost use Rattle.cells.specs.Cells.{state};
-ghost use Rattle.inputs.specs.Reads.{Wide, Ready, looked, bitsOf, passedOf, Skimmed, Keeps, Sees, Takes, Opens, Gathers, setBy};
+ghost use Rattle.cells.specs.Cells.{state, putsIn};
+ghost use Rattle.inputs.specs.Reads.{Wide, Ready, looked, bitsOf, passedOf, passedBy, Keeps, Sees, Takes, Opens, Gathers, setBy};
 use allocation::memo::stale;
 use bits::BitPlace;
 use bits::bits_at;
@@ -22,6 +20,7 @@ use derivations::sets::end_of;
 use derivations::sets::start_of;
 use derivations::sets::strategy_of;
 use exponents::set::read_exponents;
+use plan::Taken;
 use rows::fields::block_part;
 use rows::fields::index_of;
 use rows::fields::index_part;
@@ -29,6 +28,7 @@ use rows::fields::keep_of;
 use rows::fields::name_of;
 use rows::fields::slot_of;
 use rows::fields::width_of;
+use skim::between;
 use syntax::Cursor;
 use syntax::going;
 use syntax::halted;
@@ -87,18 +87,9 @@ fn span(at: BitPlace, limit: BitPlace, width: u16) -> Look
     }
 }
 
-fn mantissas(
-    src: &[u8],
-    cells: &[u16; 1024],
-    baps: &[u8; 1792],
-    memo: &[u64; 42],
-    at: BitPlace,
-    limit: BitPlace,
-) -> Look
-    requires { ⌜ (Tallies (now memo) (now baps)) × (limit .0 ≤ 8 * length (now src)) ⌝ }
-    ensures { λ r. ⌜ ((exps : List ℕ) → Skimmed (now (src .entry)) (limit .0) (at .0) (state (now (cells .entry)) (bins exps (now (baps .entry)))) r) ⌝ }
+fn mantissas(t: Taken, at: BitPlace) -> Look
+    ensures { λ r. ⌜ r ≡ passedBy t (at .0) ⌝ }
 {
-    let t = mantissas_in(src, cells, baps, memo, at, limit);
     let end = t.place;
     if t.number != 0 {
         return missed(t.number, end);
@@ -106,7 +97,7 @@ fn mantissas(
     Look {
         number: 0,
         place: end,
-        width: end.0 - at.0,
+        width: between(at, end),
         value: 0,
         stored: t.tags as u32,
     }
@@ -234,7 +225,19 @@ fn set_of(w: u64, cells: &[u16; 1024]) -> Set
     }
 }
 
-// What the mantissas of a block read, or a set of exponents.
+// Seven numbers, put into cells from the cell k on.
+fn tell(cells: &mut [u16; 1024], k: usize, numbers: [u16; 7])
+    requires { ⌜ k ≤ 590839 ⌝ }
+    ensures { λ _. ⌜ now (cells .exit) ≡ putsIn (now (cells .entry)) k numbers ⌝ }
+{
+    let mut i: usize = 0;
+    while i < 7 {
+        put(cells, k + i, numbers[i] as u32);
+        i += 1;
+    }
+}
+
+// What the mantissas of a block read, or a set of exponents. What their walk tells besides the tags is put behind them.
 pub fn gather(
     src: &[u8],
     names: &mut [u8],
@@ -258,8 +261,10 @@ pub fn gather(
         r (state (now (cells .exit)) (bins (now (exps .exit)) (now (baps .entry)))) (room (now (names .exit)) (now (blocks .exit)) (now (indexes .exit)) (now (firsts .exit)) (now (widths .exit)) (now (values .exit))) (now (memo .exit)) ⌝ }
 {
     if w % 16 < 8 {
-        let l = mantissas(src, cells, baps, memo, at, limit);
-        return keep(
+        let t = mantissas_in(src, cells, baps, memo, at, limit);
+        let k = keep_of(w, cells);
+        let l = mantissas(t, at);
+        let c = keep(
             names,
             blocks,
             indexes,
@@ -273,6 +278,9 @@ pub fn gather(
             w,
             l,
         );
+        let bits = t.bits;
+        tell(cells, k + 1, bits);
+        return c;
     }
     let x = set_of(w, cells);
     stale(memo, x.slot);

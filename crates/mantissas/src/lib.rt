@@ -8,7 +8,9 @@ use crate::tally::turned2;
 use crate::tally::turned3;
 use bits::BitPlace;
 use bits::past;
+use skim::between;
 ghost use mathlib.Core.Path.{_≡_};
+ghost use mathlib.Core.Bool.{cond};
 ghost use mathlib.Core.List.{List};
 ghost use Prim.Native.Nat.{ℕ, _+_, _-_, _%_, _<_, _≤_};
 ghost use lib.ListN.{length, getD};
@@ -27,11 +29,13 @@ pub struct Groups {
     pub g4: u8,
 }
 
-// Where the mantissas of a range end, or that they pass the frame's end, and where the first does.
+// Where the mantissas of a range end, or that they pass the frame's end, and where the first does; and the bits that
+// they took, 0 after a refusal.
 pub struct Passed {
     pub refused: bool,
     pub place: BitPlace,
     pub groups: Groups,
+    pub bits: u16,
 }
 
 // TS 102 366 Table 6.17: the bits of a mantissa that stands alone.
@@ -128,7 +132,7 @@ fn one_by_one(
     limit: BitPlace,
 ) -> Passed
     requires { ⌜ (length (now baps) ≡ 1792) × (slot < 7) × (end ≤ 256) ⌝ }
-    ensures { λ r. ⌜ ((s : List ℕ) → groupsOutcome r ≡ skim (conventionalOf (now (baps .entry)) slot start (end - start) g) s (at .0) (limit .0)) ⌝ }
+    ensures { λ r. ⌜ ((s : List ℕ) → groupsOutcome r ≡ skim (conventionalOf (now (baps .entry)) slot start (end - start) g) s (at .0) (limit .0)) × (r .bits ≡ cond (r .refused) 0 (r .place .0 - at .0)) ⌝ }
 {
     let base = 256 * (slot as usize);
     let mut p = at;
@@ -143,16 +147,19 @@ fn one_by_one(
                 refused: true,
                 place: p,
                 groups: q,
+                bits: 0,
             };
         }
         p = BitPlace(p.0 + w);
         q = counted(q, bap);
         i += 1;
     }
+    let bits = between(at, p);
     Passed {
         refused: false,
         place: p,
         groups: q,
+        bits: bits,
     }
 }
 
@@ -188,16 +195,19 @@ pub fn pass(
     limit: BitPlace,
 ) -> Passed
     requires { ⌜ (t ≡ tallyOf (now baps) slot start (end - start)) × (length (now baps) ≡ 1792) × (slot < 7) × (end ≤ 256) ⌝ }
-    ensures { λ r. ⌜ ((s : List ℕ) → groupsOutcome r ≡ skim (conventionalOf (now (baps .entry)) slot start (end - start) g) s (at .0) (limit .0)) ⌝ }
+    ensures { λ r. ⌜ ((s : List ℕ) → groupsOutcome r ≡ skim (conventionalOf (now (baps .entry)) slot start (end - start) g) s (at .0) (limit .0)) × (r .bits ≡ cond (r .refused) 0 (r .place .0 - at .0)) ⌝ }
 {
     let p = at.0 as u32 + spent(g, t);
     if (limit.0 as u32) < p {
         return one_by_one(baps, slot, start, end, g, at, limit);
     }
+    let place = BitPlace(p as u16);
+    let bits = between(at, place);
     Passed {
         refused: false,
-        place: BitPlace(p as u16),
+        place: place,
         groups: left(g, t),
+        bits: bits,
     }
 }
 
@@ -212,7 +222,7 @@ pub fn conventional(
     limit: BitPlace,
 ) -> Passed
     requires { ⌜ (length (now baps) ≡ 1792) × (slot < 7) × (end ≤ 256) ⌝ }
-    ensures { λ r. ⌜ ((s : List ℕ) → groupsOutcome r ≡ skim (conventionalOf (now (baps .entry)) slot start (end - start) g) s (at .0) (limit .0)) ⌝ }
+    ensures { λ r. ⌜ ((s : List ℕ) → groupsOutcome r ≡ skim (conventionalOf (now (baps .entry)) slot start (end - start) g) s (at .0) (limit .0)) × (r .bits ≡ cond (r .refused) 0 (r .place .0 - at .0)) ⌝ }
 {
     let t = tallied(baps, slot, start, end);
     pass(t, baps, slot, start, end, g, at, limit)

@@ -20,6 +20,7 @@ use Rattle.exponents.specs.declared.Group.{Group}
 use Rattle.exponents.specs.declared.Group.the-variants.{Refused, Moved}
 use Rattle.exponents.specs.declared.Next.{Next}
 use Rattle.exponents.specs.declared.Next.the-variants.{Outside, To}
+use Rattle.skim.specs.Counted.{counting}
 use Rattle.mantissas.specs.Mantissas.{conventionalOf}
 use Rattle.mantissas.specs.declared.Groups.{Groups}
 use Rattle.hybrid.specs.Hybrid.{activeIn, singlesOf, triplesOf, gainsOf, smallOf, largeOf, premantissaOf, premantissasOf, binOf, binsOf, ahtOf}
@@ -227,14 +228,18 @@ unfolding ahtOf
 fails-aht baps slot bin n =
     λ mode. fails-bind (gainsOf mode (activeIn mode baps slot bin n)) _ (fails-gains mode (activeIn mode baps slot bin n)) (λ gains. fails-bins mode gains baps slot bin n 0 0)
 
+fails-counting : {A : Type 0} (s : Skim A) → Fails s → Fails (counting s)
+unfolding counting
+fails-counting s h = λ p. fails-bind s _ h (λ a q. tt)
+
 module _ (baps : List ℕ) (shape : Shape) where
   fails-visit : (slot : ℕ) (a : Along) → Fails (visitOf baps shape slot a)
   unfolding visitOf
   fails-visit slot a =
       fails-if (readOf shape slot) _ _ tt
       (fails-if (getD (shape .ahtinu) slot false) _ _
-      (fails-bind (ahtOf baps slot _ _) _ (fails-aht baps slot _ _) (λ t. tt))
-      (fails-bind (conventionalOf baps slot _ _ (a .groups)) _ (fails-conventional baps slot _ _ (a .groups)) (λ g. tt)))
+      (fails-bind (counting (ahtOf baps slot _ _)) _ (fails-counting (ahtOf baps slot _ _) (fails-aht baps slot _ _)) (λ t. tt))
+      (fails-bind (counting (conventionalOf baps slot _ _ (a .groups))) _ (fails-counting (conventionalOf baps slot _ _ (a .groups)) (fails-conventional baps slot _ _ (a .groups))) (λ g. tt)))
 
   fails-visit-if : (c : Bool) (slot : ℕ) (a : Along) → Fails (visitIf baps shape c slot a)
   unfolding visitIf

@@ -16,26 +16,39 @@ ghost use mathlib.Core.Bool.{cond, _&&_, _||_, not, false};
 ghost use mathlib.Core.List.{[]};
 ghost use Prim.Native.Nat.{_+_, _*_, _<_, _≤_, min};
 ghost use lib.Dec.{eqb};
-ghost use lib.ListN.{length, getD};
+ghost use lib.ListN.{length, getD, set};
 ghost use Rattle.reading.specs.Run.{skim, out};
 ghost use Rattle.allocation.specs.Memo.{Tallies};
 ghost use Rattle.plan.specs.Plan.{along, visitIf, mantissasOf};
-ghost use Rattle.plan.specs.Taken.{takingOutcome, onward, taken};
+ghost use Rattle.plan.specs.Taken.{takingOutcome, onward, taken, NoneTold, endedOf};
 ghost use Rattle.skim.specs.Outcomes.{orPast};
 
-// Where the walk through a block stands: a refusal number, or 0; the place; the tags; the counts of groups.
+// Where the walk through a block stands: a refusal number, or 0; the place; the tags; the counts of groups; the bits that
+// each slot took.
 pub struct Taking {
     pub number: u8,
     pub place: BitPlace,
     pub tags: u16,
     pub groups: Groups,
+    pub bits: [u16; 7],
 }
 
-// A refusal number, or 0; the place; and the tags counted, 0 after a refusal.
+// A refusal number, or 0; the place; the tags counted and the bits that each slot took, all 0 after a refusal.
 pub struct Taken {
     pub number: u8,
     pub place: BitPlace,
     pub tags: u16,
+    pub bits: [u16; 7],
+}
+
+// The bits of the slots, those of one slot among them.
+fn noted(bits: [u16; 7], slot: u8, n: u16) -> [u16; 7]
+    requires { ⌜ slot < 7 ⌝ }
+    ensures { λ r. ⌜ r ≡ set bits slot n ⌝ }
+{
+    let mut b = bits;
+    b[slot as usize] = n;
+    b
 }
 
 // The mantissas of a slot, where it is wanted and no refusal stands.
@@ -67,11 +80,14 @@ fn visit(
     if hybrid(shape, slot) {
         let a = aht(src, baps, slot, r.start, r.end, at, limit);
         let place = a.place;
+        let old = t.bits;
+        let bits = noted(old, slot, a.bits);
         return Taking {
             number: a.number,
             place: place,
             tags: t.tags + a.tags,
             groups: g,
+            bits: bits,
         };
     }
     let p = pass(
@@ -84,11 +100,13 @@ fn visit(
         at,
         limit,
     );
-    passed(p.refused, p.place, p.groups, t.tags)
+    let old = t.bits;
+    let bits = noted(old, slot, p.bits);
+    passed(p.refused, p.place, p.groups, t.tags, bits)
 }
 
-fn passed(refused: bool, place: BitPlace, groups: Groups, tags: u16) -> Taking
-    ensures { λ r. ⌜ (takingOutcome r ≡ out (orPast refused (along groups tags)) (place .0) []) × (r .tags ≡ tags) ⌝ }
+fn passed(refused: bool, place: BitPlace, groups: Groups, tags: u16, bits: [u16; 7]) -> Taking
+    ensures { λ r. ⌜ (takingOutcome r ≡ out (orPast refused (along groups tags bits)) (place .0) []) × (r .tags ≡ tags) ⌝ }
 {
     if refused {
         return Taking {
@@ -96,6 +114,7 @@ fn passed(refused: bool, place: BitPlace, groups: Groups, tags: u16) -> Taking
             place: place,
             tags: tags,
             groups: groups,
+            bits: bits,
         };
     }
     Taking {
@@ -103,6 +122,7 @@ fn passed(refused: bool, place: BitPlace, groups: Groups, tags: u16) -> Taking
         place: place,
         tags: tags,
         groups: groups,
+        bits: bits,
     }
 }
 
@@ -129,11 +149,26 @@ fn either(a: bool, b: bool) -> bool
     a || b
 }
 
-// The tags that are told: 0 after a refusal.
-fn told(number: u8, tags: u16) -> u16
-    ensures { λ r. ⌜ r ≡ cond (eqb number 0) tags 0 ⌝ }
+// The end of the walk.
+fn ended(t: Taking) -> Taken
+    ensures { λ r. ⌜ r ≡ endedOf t ⌝ }
 {
-    if number == 0 { tags } else { 0 }
+    let place = t.place;
+    if t.number != 0 {
+        return Taken {
+            number: t.number,
+            place: place,
+            tags: 0,
+            bits: [0; 7],
+        };
+    }
+    let bits = t.bits;
+    Taken {
+        number: t.number,
+        place: place,
+        tags: t.tags,
+        bits: bits,
+    }
 }
 
 // The mantissas of a block: its channels, the coupling channel after the first coupled one, the LFE
@@ -147,7 +182,7 @@ pub fn mantissas(
     limit: BitPlace,
 ) -> Taken
     requires { ⌜ (Tallies (now memo) (now baps)) × (limit .0 ≤ 8 * length (now src)) ⌝ }
-    ensures { λ r. ⌜ (taken r ≡ skim (mantissasOf (now (baps .entry)) shape) (now (src .entry)) (at .0) (limit .0)) × (¬ (r .number ≡ 0) → r .tags ≡ 0) ⌝ }
+    ensures { λ r. ⌜ (taken r ≡ skim (mantissasOf (now (baps .entry)) shape) (now (src .entry)) (at .0) (limit .0)) × (¬ (r .number ≡ 0) → NoneTold r) ⌝ }
 {
     let n = least(shape.nfchans as u16, 5);
     let mut t = Taking {
@@ -159,6 +194,7 @@ pub fn mantissas(
             g2: 0,
             g4: 0,
         },
+        bits: [0; 7],
     };
     let mut got = false;
     let mut ch: u16 = 0;
@@ -171,10 +207,5 @@ pub fn mantissas(
         ch += 1;
     }
     t = visit(src, baps, memo, shape, shape.lfeon, LFE, t, limit);
-    let place = t.place;
-    Taken {
-        number: t.number,
-        place: place,
-        tags: told(t.number, t.tags),
-    }
+    ended(t)
 }

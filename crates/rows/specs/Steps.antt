@@ -3,9 +3,8 @@ use Prim.Native.Nat.{ℕ, _+_, _-_, _*_, _%_}
 use mathlib.Core.Bool.{cond}
 use mathlib.Core.Path.{_≡_}
 use lib.Dec.{ltb, eqb}
-use lib.ListN.{getD}
 use Rattle.reading.specs.Tree.{Tree, done, ahead, span as spanned, scan}
-use Rattle.cells.specs.Cells.{State, state, Addr, Sum, cellOf, placeOf, heldOf, sumOf, stored, partOf}
+use Rattle.cells.specs.Cells.{State, state, Addr, Sum, cellOf, placeOf, heldOf, sumOf, stored, storedAll, partOf}
 use Rattle.derivations.specs.Derivations.{derived}
 use Rattle.derivations.specs.Sets.{exponentsOf}
 use Rattle.derivations.specs.Mantissas.{mantissasIn}
@@ -37,7 +36,7 @@ abbrev pub region : ℕ → Sum → Addr → ℕ → State → Tree State
 region name i a k st = spanned (partOf name i (st .cells)) (cellOf (st .cells) k) (done (stored st (placeOf a (st .cells)) 0))
 
 abbrev pub walked : ℕ → Sum → Addr → State → Tree State
-walked name i a st = scan (partOf name i (st .cells)) (mantissasIn st) (λ outcome. done (stored st (placeOf a (st .cells)) (getD outcome 0 0)))
+walked name i a st = scan (partOf name i (st .cells)) (mantissasIn st) (λ told. done (storedAll st (placeOf a (st .cells)) told))
 
 unfoldable pub stepOf : Row → ℕ → State → Move
 stepOf (Elements n i w a k f c) p st = runs (turns (countOf c (st .cells) - f) f k (one n i w a) st)

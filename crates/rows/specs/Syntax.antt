@@ -4,9 +4,8 @@ use Prim.Native.Nat.{ℕ, zero, suc, _+_, _-_, _*_, _%_}
 use mathlib.Core.Bool.{Bool, false, cond, not, _||_}
 use mathlib.Core.List.{List, [], _∷_}
 use lib.Dec.{eqb, ltb, leb}
-use lib.ListN.{getD}
 use Rattle.reading.specs.Tree.{Tree, done, refuse, ahead, here, read, span as spanned, scan, _>>=_}
-use Rattle.cells.specs.Cells.{State, state, Addr, Sum, addr, sum, cellOf, putIn, placeOf, heldOf, sumOf, stored, partOf}
+use Rattle.cells.specs.Cells.{State, state, Addr, Sum, addr, sum, cellOf, putIn, placeOf, heldOf, sumOf, stored, storedAll, partOf}
 use Rattle.derivations.specs.Acted.{Acted}
 use Rattle.derivations.specs.Derivations.{derived}
 use Rattle.derivations.specs.Sets.{exponentsOf}
@@ -81,7 +80,7 @@ mutual
     elements : ℕ → Sum → ℕ → Addr → ℕ → ℕ → ℕ → Item
     -- bits that are not looked at: the name, and the cell of the width
     span : ℕ → ℕ → Item
-    -- the mantissas of the block: the name, and the cell that keeps the number of tags
+    -- the mantissas of the block: the name, and the first of the cells that keep what their walk tells
     mantissas : ℕ → Addr → Item
     -- a set of exponents: the slot, and the name and the index of its groups
     exponents : Sum → ℕ → Sum → Item
@@ -180,7 +179,7 @@ unfoldable mutual
   item (element name i w a) st = one name i w a st
   item (elements name i w a k f n) st = turns (cellOf (st .cells) n - f) f k (one name i w a) st
   item (span name k) st = spanned (partOf name none (st .cells)) (cellOf (st .cells) k) (done st)
-  item (mantissas name a) st = scan (partOf name none (st .cells)) (mantissasIn st) (λ outcome. done (stored st (placeOf a (st .cells)) (getD outcome 0 0)))
+  item (mantissas name a) st = scan (partOf name none (st .cells)) (mantissasIn st) (λ told. done (storedAll st (placeOf a (st .cells)) told))
   item (exponents s name i) st = exponentsOf (partOf name i (st .cells)) (sumOf s (st .cells) % 256) st
   item (when c b) st = cond (holdsOf c (st .cells)) (meaning b st) (done st)
   item (each k i n b) st = turns (countOf n (st .cells) - sumOf i (st .cells)) (sumOf i (st .cells)) k (λ x. meaning b x) st

@@ -12,7 +12,7 @@
 //
 // The functions read of the number what they need.
 ghost use mathlib.Core.Path.{_≡_};
-ghost use Prim.Native.Nat.{_<_, _%_};
+ghost use Prim.Native.Nat.{_%_, _<_, _≤_};
 ghost use Rattle.cells.specs.Cells.{placeOf, sumOf, addr, signed};
 ghost use Rattle.rows.specs.Rows.{nameIn, widthIn, keepIn, indexIn, slotIn};
 use cells::cell_of;
@@ -38,14 +38,14 @@ fn wide(x: u16) -> usize
 // The cell at an address.
 pub fn spot(base: usize, by: usize, row: usize, cells: &[u16; 1024]) -> usize
     requires { ⌜ base < 1024 ⌝ }
-    ensures { λ r. ⌜ r ≡ placeOf (addr base by row) (now (cells .entry)) ⌝ }
+    ensures { λ r. ⌜ (r ≡ placeOf (addr base by row) (now (cells .entry))) × (r ≤ 590838) ⌝ }
 {
     base + wide(cell_of(cells, by)) + 8 * wide(cell_of(cells, row))
 }
 
 // The cell that keeps an element. An element of kind 0 has no counters.
 pub fn keep_of(w: u64, cells: &[u16; 1024]) -> usize
-    ensures { λ r. ⌜ r ≡ placeOf (keepIn w) (now (cells .entry)) ⌝ }
+    ensures { λ r. ⌜ (r ≡ placeOf (keepIn w) (now (cells .entry))) × (r ≤ 590838) ⌝ }
 {
     let base = (w / 131072 % 1024) as usize;
     if w % 16 == 0 {

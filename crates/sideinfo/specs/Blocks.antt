@@ -6,7 +6,7 @@ use lib.Dec.{ltb, eqb}
 use Rattle.cells.specs.Cells.{cellOf, putIn}
 use Rattle.sideinfo.specs.Steps.{eachOf}
 use Rattle.sideinfo.specs.Frames.{holding}
-use Rattle.cells.specs.Names.{AHTINU, AHT-READ, AHT-TAGS, CHBWCOD, CHBWSENT, CHINCPL, CHINSPX, CPL-SUBND-END, CPLBEGF, CPLBNDSTRC, CPLEND, CPLENDF, CPLINU, CPLSTRT, ENDMANT, LFEON, NCPLBND, NFCHANS, NREMATBD, NSPXBNDS, SPX-BEGIN, SPX-END, SPXBEGF, SPXBNDSTRC, SPXENDF, SPXINU, TAGS}
+use Rattle.cells.specs.Names.{AHT-READ, AHT-TAGS, AHTINU, BLK, CHBWCOD, CHBWSENT, CHINCPL, CHINSPX, CPL-SUBND-END, CPLBEGF, CPLBNDSTRC, CPLEND, CPLENDF, CPLINU, CPLSTRT, ENDMANT, LFEON, NCPLBND, NFCHANS, NREMATBD, NSPXBNDS, SLOT-BITS, SPX-BEGIN, SPX-END, SPXBEGF, SPXBNDSTRC, SPXENDF, SPXINU, TAGS}
 
 -- spx_begin_subbnd and spx_end_subbnd (E.2.3)
 unfoldable pub spxRangeBy : List ℕ → List ℕ
@@ -93,8 +93,12 @@ readOf ch m =
     let x = markedIn (flagOf m (AHTINU + ch)) (AHT-READ + ch) m in
     markedIn (coupledIn x ch && flagOf x (AHTINU + 5)) (AHT-READ + 5) x
 
--- the tags so far, and the slots that are read
+-- the bits that a slot took, kept by block
+abbrev pub slotBitsOf : ℕ → List ℕ → List ℕ
+slotBitsOf slot m = putIn m (SLOT-BITS + 8 * cellOf m BLK + slot) (cellOf m (TAGS + 1 + slot))
+
+-- the tags so far, the bits of the slots, and the slots that are read
 unfoldable pub ahtReadBy : List ℕ → List ℕ
 ahtReadBy m =
-    let x = eachOf readOf (channelsOf m) (putIn m AHT-TAGS (cellOf m AHT-TAGS + cellOf m TAGS)) in
+    let x = eachOf readOf (channelsOf m) (eachOf slotBitsOf 7 (putIn m AHT-TAGS (cellOf m AHT-TAGS + cellOf m TAGS))) in
     markedIn (flagOf x LFEON && flagOf x (AHTINU + 6)) (AHT-READ + 6) x

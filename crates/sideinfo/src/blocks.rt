@@ -4,7 +4,7 @@ ghost use mathlib.Core.Bool.{Bool, cond};
 ghost use Prim.Native.Nat.{_+_, _-_, _*_, _≤_, _<_, min};
 ghost use lib.Dec.{eqb, ltb};
 ghost use Rattle.sideinfo.specs.Steps.{eachOf};
-ghost use Rattle.sideinfo.specs.Blocks.{spxRangeBy, bandsOf, nspxbndsBy, cplRangeBy, ncplbndBy, nrematbdBy, cplBinsBy, coupledIn, extendedIn, endmantOf, unknownOf, unknownHere, endmantsOf, endmantsBy, readOf, ahtReadBy};
+ghost use Rattle.sideinfo.specs.Blocks.{spxRangeBy, bandsOf, nspxbndsBy, cplRangeBy, ncplbndBy, nrematbdBy, cplBinsBy, coupledIn, extendedIn, endmantOf, unknownOf, unknownHere, endmantsOf, endmantsBy, readOf, slotBitsOf, ahtReadBy};
 use crate::flags::both;
 use crate::flags::count;
 use crate::flags::flag;
@@ -13,6 +13,7 @@ use cells::cell_of;
 use cells::numbers::AHT_READ;
 use cells::numbers::AHT_TAGS;
 use cells::numbers::AHTINU;
+use cells::numbers::BLK;
 use cells::numbers::CHBWCOD;
 use cells::numbers::CHBWSENT;
 use cells::numbers::CHINCPL;
@@ -30,6 +31,7 @@ use cells::numbers::NCPLBND;
 use cells::numbers::NFCHANS;
 use cells::numbers::NREMATBD;
 use cells::numbers::NSPXBNDS;
+use cells::numbers::SLOT_BITS;
 use cells::numbers::SPX_BEGIN;
 use cells::numbers::SPX_END;
 use cells::numbers::SPXBEGF;
@@ -291,13 +293,35 @@ fn read_all(cells: &mut [u16; 1024], n: usize)
     }
 }
 
-// After the mantissas of a block: the tags so far, and the slots of the adaptive hybrid transform that are read.
+// The bits that a slot took, kept by block; those of all slots.
+fn keep_bits(cells: &mut [u16; 1024], slot: usize)
+    requires { ⌜ slot < 7 ⌝ }
+    ensures { λ _. ⌜ now (cells .exit) ≡ slotBitsOf slot (now (cells .entry)) ⌝ }
+{
+    let block = cell_of(cells, BLK) as usize;
+    let bits = cell_of(cells, TAGS + 1 + slot) as u32;
+    put(cells, SLOT_BITS + 8 * block + slot, bits);
+}
+
+fn keep_all_bits(cells: &mut [u16; 1024])
+    ensures { λ _. ⌜ now (cells .exit) ≡ eachOf slotBitsOf 7 (now (cells .entry)) ⌝ }
+{
+    let mut slot: usize = 0;
+    while slot < 7 {
+        keep_bits(cells, slot);
+        slot += 1;
+    }
+}
+
+// After the mantissas of a block: the tags so far, the bits of the slots, and the slots of the adaptive hybrid transform
+// that are read.
 pub fn aht_read(cells: &mut [u16; 1024])
     ensures { λ _. ⌜ now (cells .exit) ≡ ahtReadBy (now (cells .entry)) ⌝ }
 {
     let n = five(cell_of(cells, NFCHANS));
     let tags = cell_of(cells, AHT_TAGS) as u32 + cell_of(cells, TAGS) as u32;
     put(cells, AHT_TAGS, tags);
+    keep_all_bits(cells);
     read_all(cells, n);
     let lfe = both(flag(cells, LFEON), flag(cells, AHTINU + 6));
     mark(cells, AHT_READ + 6, lfe);

@@ -2,14 +2,16 @@
 use mathlib.Core.Path.{_≡_, refl, ap, sym, _∙_}
 use mathlib.Core.Bool.{Bool, true, false, cond}
 use mathlib.Core.List.{List, [], _∷_}
-use Prim.Native.Nat.{ℕ, _+_}
+use Prim.Native.Nat.{ℕ, _+_, _-_}
 use native.Mathlib.Omega.{arith}
+use native.Mathlib.Decide.{ℕ-discrete}
 use lib.Dec.{leb, ltb, eqb}
 use borrow.Author.Tests.{ltb-true, ltb-false, le-leb, lt-leb, eq-eqb, ne-eqb}
 use Rattle.bits.specs.Bits.{bitsAt}
 use Rattle.bits.specs.declared.BitPlace.{BitPlace}
 use Rattle.reading.specs.Tree.{Skim, stop, fail, at, take, _>>-_}
 use Rattle.reading.specs.Run.{Result, accepted, refused, Outcome, out, skim}
+use Rattle.skim.specs.Counted.{counted, counting}
 use Rattle.skim.specs.Outcomes.{outcome, lookOf}
 use Rattle.skim.specs.declared.Look.{Look}
 use Rattle.skim.specs.declared.Look.the-variants.{Past, Found}
@@ -79,3 +81,13 @@ module _ {A B : Type 0} (f : A → Skim B) (s : List ℕ) (l : ℕ) where
     pub bind-off : (number ≡ 0 → ⊥) → skim (x >>- f) s p l ≡ out (refused number) q []
     unfolding ok
     bind-off h = bound x p ∙ rw (← e, ne-eqb number 0 h)
+
+-- a walk with the bits that it took
+module _ {A : Type 0} (x : Skim A) (s : List ℕ) (p l : ℕ) where
+  pub counted-on : (n q : ℕ) (a : A) → outcome n a q ≡ skim x s p l → outcome n (counted a (q - p)) q ≡ skim (counting x) s p l
+  unfolding counting skim
+  counted-on n q a e = go (ℕ-discrete n 0)
+    where
+      go : Dec (n ≡ 0) → outcome n (counted a (q - p)) q ≡ skim (x >>- (λ a. at (λ q. stop (counted a (q - p))))) s p l
+      go (yes h) = rw (eq-eqb n 0 h) (sym (bind-on (λ a. at (λ q. stop (counted a (q - p)))) s l x p n q a e h))
+      go (no h) = rw (ne-eqb n 0 h) (sym (bind-off (λ a. at (λ q. stop (counted a (q - p)))) s l x p n q a e h))

@@ -3,7 +3,7 @@ use bits::BitPlace;
 use bits::get;
 use bits::past;
 ghost use mathlib.Core.Path.{_≡_};
-ghost use Prim.Native.Nat.{_*_, _≤_};
+ghost use Prim.Native.Nat.{_-_, _*_, _≤_};
 ghost use lib.ListN.{length};
 ghost use Rattle.skim.specs.Outcomes.{lookOf};
 
@@ -22,4 +22,14 @@ pub fn raw(src: &[u8], at: BitPlace, width: u16, limit: BitPlace) -> Look
         return Look::Past;
     }
     Look::Found(get(src, at, width), BitPlace(at.0 + width))
+}
+
+// How many bits lie between two places, none where the second is not behind the first.
+pub fn between(from: BitPlace, to: BitPlace) -> u16
+    ensures { λ r. ⌜ r ≡ to .0 - from .0 ⌝ }
+{
+    if from.0 < to.0 {
+        return to.0 - from.0;
+    }
+    0
 }

@@ -7,7 +7,7 @@ pub const TABLE: [u64; 81] = [
     4471888, // opening: element substreamid none 3 (cell SUBSTREAMID)
     72058143659524651, // opening: reject (Above (cell SUBSTREAMID) 3) 4
     4634464, // opening: element frmsiz none 11 (cell FRMSIZ)
-    9042385975704346, // opening: put (cell FRAME-END) (Let 16 16 (cell FRMSIZ))
+    9042385975711386, // opening: put (cell FRAME-END) (Let 16 16 (cell FRMSIZ))
     4728704, // opening: element fscod none 2 (cell FSCOD)
     1649288417901, // opening: reject (AtLeast (cell FSCOD) (Word 3)) 5
     4860224, // opening: element numblkscod none 2 (cell NUMBLKSCOD)
@@ -64,19 +64,19 @@ pub const TABLE: [u64; 81] = [
     65407124, // quantized: mantissas mantissas-of-block (cell TAGS)
     556, // quantized: derive AhtRead
     154, // closing: put (cell BLOCK) (number 0)
-    64138, // closing: put (cell AUDIO-END) Here
-    1101744339745738, // closing: put (cell AFTER-AUDIO) (Minus (cell FRAME-END) AUDIO-END)
-    600367037480106, // closing: put (cell AFTER-AUXDATAE) (Less 17 1 (cell FRAME-END))
-    9895730543565, // closing: reject (Under (cell AFTER-AUDIO) (Word 18)) 30
-    18827387665357, // closing: reject-at (Under (cell AFTER-AUDIO) (Word 34)) 31 AFTER-AUXDATAE
-    637750499892394, // closing: put (cell WIDTH) (Less 34 1 (cell AFTER-AUDIO))
+    71178, // closing: put (cell AUDIO-END) Here
+    1222694309795658, // closing: put (cell AFTER-AUDIO) (Minus (cell FRAME-END) AUDIO-END)
+    600370728474666, // closing: put (cell AFTER-AUXDATAE) (Less 17 1 (cell FRAME-END))
+    9895730550605, // closing: reject (Under (cell AFTER-AUDIO) (Word 18)) 30
+    18842151622477, // closing: reject-at (Under (cell AFTER-AUDIO) (Word 34)) 31 AFTER-AUXDATAE
+    637754190879914, // closing: put (cell WIDTH) (Less 34 1 (cell AFTER-AUDIO))
     3254554418217155, // closing: span auxbits WIDTH
-    66380000, // closing: element auxdatal none 14 (cell AUXDATAL)
-    102115397664045, // closing: reject-at (Over (cell AUXDATAL) (held WIDTH)) 32 AFTER-AUXDATAE
-    406852923882170, // closing: put (cell AUDIO-END) (Plus (cell AUDIO-END) WIDTH)
-    562983642094746, // closing: put (cell WIDTH) (copy (cell FRAME-END))
+    73588960, // closing: element auxdatal none 14 (cell AUXDATAL)
+    102130161621165, // closing: reject-at (Over (cell AUXDATAL) (held WIDTH)) 32 AFTER-AUXDATAE
+    406856614876730, // closing: put (cell AUDIO-END) (Plus (cell AUDIO-END) WIDTH)
+    562987333082266, // closing: put (cell WIDTH) (copy (cell FRAME-END))
     637729159273642, // closing: put (cell WIDTH) (Less 34 1 (cell WIDTH))
-    101979745483405, // closing: reject (Differs (cell AUDIO-END) (held WIDTH)) 10
+    101979745490445, // closing: reject (Differs (cell AUDIO-END) (held WIDTH)) 10
     143007378583966, // closing: each CH (after STRMTYP) (Fixed 3)
     722654063923469, // closing: reject (Differs (at ENDMANT CH) (Cell (at ENDMANT BLOCK))) 11
     1717986925121, // closing: element rematflg (by CH) 1 no

@@ -7,7 +7,7 @@ use Prim.Native.Nat.{ℕ, zero, suc, _+_, _%_, _≤_, _<_}
 use native.Mathlib.Omega.{arith}
 use Rattle.names.specs.Names.{frmcsnroffst}
 use Rattle.reading.specs.Run.{Entry}
-use Rattle.cells.specs.Cells.{State, cellOf, putIn, stored, placeOf, heldOf}
+use Rattle.cells.specs.Cells.{State, cellOf, putIn, putsIn, stored, placeOf, heldOf}
 use Rattle.cells.specs.Names.{BLK, CHBWCOD, CPL-SUBND-END, CPLBEGF, CPLINUS, CPLSTRE, FIRSTCPLLEAK, FSCOD, NFCHANS, NUMBLKS, SNROFFSTSTR, TAGS}
 use Rattle.derivations.specs.Allocating.{freshBy, allocateIn}
 use Rattle.derivations.specs.Derivations.{Allocation, Fresh, derived}
@@ -22,6 +22,7 @@ use Rattle.unmet.specs.Unmet.{Offsets, Ready, Unmet, NoneMet}
 use Rattle.cells.proofs.Cells.{put-sized}
 use Rattle.bounds.proofs.Cells.{cell-zero, cell-at, cell-beside}
 use Rattle.bounds.proofs.Bounds.{both, numblks-most, may, Changed, changed-then, puts}
+use Rattle.bounds.proofs.Fits.{told-changes}
 use Rattle.bounds.proofs.Bounded.{header-within}
 use Rattle.bounds.proofs.Derived.{fitsFresh, fresh-changes}
 use Rattle.unmet.proofs.Exponents.{afterExponents, after-exponents, after-through, fewer, blk-same, str-same, coupling-stays, channels-stay, lfe-stays, covered, Covered}
@@ -174,6 +175,10 @@ module _ (s : List ℕ) (l : ℕ) where
   unfolding passes settled
   may-tags = refl
 
+  may-bits : may (leavesUnsent settled) (suc TAGS) (0 + 6) 0 65535 ≡ true
+  unfolding passes settled
+  may-bits = refl
+
   quantized-walk : (n j : ℕ) (st : State) (p : ℕ) (es : List Entry) → Allocating n j es (st .cells) → Walks s l Unmet quantized st p es (λ a q fs. AfterBlock n j fs (a .cells))
   unfolding quantized firstItems afterItems passes settled throughExponents
   quantized-walk n j st p es c =
@@ -183,10 +188,10 @@ module _ (s : List ℕ) (l : ℕ) where
       (λ x u hs f i. walks-next s l Unmet _ _ x u hs {M = λ y v is. Changed (leavesUnsent settled) (a .cells) (y .cells) × Grows fs is}
       (ends-fit (x .cells) (ranged-stays (a .cells) (x .cells) (unsent-leaves throughExponents (a .cells) (x .cells) f) (d .ranged)))
       (walked-mantissas s l Unmet _ (cell TAGS) x u hs
-      (λ v w is t k.
+      (λ vs w is n t k.
       let e = place-cell TAGS (x .cells) in (
-        changed-then (leavesUnsent settled) (a .cells) (x .cells) (putIn (x .cells) (placeOf (cell TAGS) (x .cells)) v) (exponents-settled (a .cells) (x .cells) f)
-            (puts (leavesUnsent settled) (x .cells) (placeOf (cell TAGS) (x .cells)) v TAGS 0 0 tagsMost (f .within) may-tags (omega arith) (omega arith) (omega arith) (omega arith)),
+        changed-then (leavesUnsent settled) (a .cells) (x .cells) (putsIn (x .cells) (placeOf (cell TAGS) (x .cells)) vs) (exponents-settled (a .cells) (x .cells) f)
+            (told-changes (leavesUnsent settled) (x .cells) (placeOf (cell TAGS) (x .cells)) vs TAGS 0 (f .within) n t may-tags may-bits (omega arith) (omega arith)),
         grows-trans fs hs is i k,
       )))
       (λ y v is m. whole s l (leavesUnsent settled) _ refl y v is (m .0 .within)

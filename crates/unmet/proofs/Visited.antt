@@ -5,11 +5,12 @@ use mathlib.Core.List.{List, [], _∷_}
 use Prim.Native.Nat.{ℕ, zero, suc, _+_, _-_, min, _≤_, _<_}
 use native.Mathlib.Omega.{arith}
 use lib.Dec.{eqb}
-use lib.ListN.{getD}
+use lib.ListN.{getD, set}
 use borrow.Author.Tests.{ne-eqb, lt-ltb}
 use Rattle.reading.specs.Tree.{Skim, stop, take, _>>-_}
 use Rattle.slots.specs.Slots.{CPL, LFE, pointer, rangeOf, usedOf, readOf, requestedOf}
 use Rattle.slots.specs.declared.Shape.{Shape}
+use Rattle.skim.specs.Counted.{counting}
 use Rattle.mantissas.specs.Mantissas.{widthOf, countedOf, conventionalOf}
 use Rattle.mantissas.specs.declared.Groups.{Groups}
 use Rattle.hybrid.specs.Hybrid.{activeOf, activeIn, gainsOf, binOf, gainOf, nextActive, binsOf, ahtOf}
@@ -77,15 +78,15 @@ module _ (shape : Shape) (x y : List ℕ) (same : (slot bin : ℕ) → slot < 7 
       bins e k i j = same slot k h (let z = bins-most shape slot in omega arith) (asked e)
 
       aht : List ℕ → Skim Along
-      aht z = ahtOf z slot b n >>- (λ t. stop (along (a .groups) (a .tags + t)))
+      aht z = counting (ahtOf z slot b n) >>- (λ t. stop (along (a .groups) (a .tags + t .told) (set (a .bits) slot (t .bits))))
 
       conventional : List ℕ → Skim Along
-      conventional z = conventionalOf z slot b n (a .groups) >>- (λ g. stop (along g (a .tags)))
+      conventional z = counting (conventionalOf z slot b n (a .groups)) >>- (λ g. stop (along (g .told) (a .tags) (set (a .bits) slot (g .bits))))
 
       go : (c d : Bool) → readOf shape slot ≡ c → cond c (stop a) (cond d (aht x) (conventional x)) ≡ cond c (stop a) (cond d (aht y) (conventional y))
       go true d e = refl
-      go false true e = ap (λ s. s >>- (λ t. stop (along (a .groups) (a .tags + t)))) (aht-same x y slot b n (bins e))
-      go false false e = ap (λ s. s >>- (λ g. stop (along g (a .tags)))) (conventional-same x y slot b n (a .groups) (bins e))
+      go false true e = ap (λ s. counting s >>- (λ t. stop (along (a .groups) (a .tags + t .told) (set (a .bits) slot (t .bits))))) (aht-same x y slot b n (bins e))
+      go false false e = ap (λ s. counting s >>- (λ g. stop (along (g .told) (a .tags) (set (a .bits) slot (g .bits))))) (conventional-same x y slot b n (a .groups) (bins e))
 
   visit-if-same : (c : Bool) (slot : ℕ) (a : Along) → slot < 7 → (c ≡ true → usedOf shape slot ≡ true) → visitIf x shape c slot a ≡ visitIf y shape c slot a
   unfolding visitIf
@@ -113,7 +114,7 @@ module _ (shape : Shape) (x y : List ℕ) (same : (slot bin : ℕ) → slot < 7 
 
   slots-same : (ch n : ℕ) (got : Bool) (a : Along) → ch + n ≡ min (shape .nfchans) 5 → slotsOf x shape ch n got a ≡ slotsOf y shape ch n got a
   unfolding slotsOf
-  slots-same ch zero got a h = ap (λ s. s >>- (λ a. stop (a .tags ∷ []))) (visit-if-same (shape .lfeon) LFE a (omega arith) used-lfe)
+  slots-same ch zero got a h = ap (λ s. s >>- (λ a. stop (a .tags ∷ a .bits))) (visit-if-same (shape .lfeon) LFE a (omega arith) used-lfe)
   slots-same ch (suc n) got a h =
       ap (λ s. s >>- (λ a. visitIf x shape (coupled && not got) CPL a >>- (λ a. slotsOf x shape (suc ch) n (got || coupled) a))) (visit-if-same true ch a (omega arith) (λ _. used-channel ch (omega arith)))
       ∙ ap (λ f. visitIf y shape true ch a >>- f)

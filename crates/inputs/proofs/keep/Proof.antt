@@ -48,7 +48,7 @@ returns-3 : tie.Need-returns-3
 returns-3 c = keeps-made _ _ _ _ _ (c .before .before .before .before .before .before .before .before .before .before .before .before .before .before .before .before .before .before .before .args .l) (c .before .before .before .before .before .before .before .before .before .before .before .before .before .if1 .left) _ (c .before .before .before .before .before .before .before .before .before .before .before .before .before .before .before .before .before .before .before .pre) (omega (arith, c .before .before .before .before .before .before .before .before .before .before .before .before .if2 .left)) _ (c .before .before .before .before .before .before .before .before .before .before .before .name-of .ensures)
     _ (c .before .before .before .before .before .before .before .before .before .cell-of .ensures) _ (toZ-ofZ {w = w8} {z = c .before .before .before .before .before .before .before .before .block-part .result} (record { sfits = c .before .before .before .before .before .before .before .before .block-part .ok }) ∙ c .before .before .before .before .before .before .before .before .block-part .ensures)
     _ (c .before .before .before .before .before .before .index-of .ensures) _ (toZ-ofZ {w = w16} {z = c .before .before .before .before .before .index-part .result} (record { sfits = c .before .before .before .before .before .index-part .ok }) ∙ c .before .before .before .before .before .index-part .ensures)
-    _ (c .before .before .before .keep-of .ensures) _ (c .before .put .ensures) (c .going .result) (c .going .ensures)
+    _ (c .before .before .before .keep-of .ensures .0) _ (c .before .put .ensures) (c .going .result) (c .going .ensures)
 
 pub keep-spec : {M : Type 1} → statement M
 keep-spec =

@@ -1,5 +1,5 @@
 use mathlib.Core.Bool.{false}
-use Rattle.plan.proofs.VisitLaws.{slots-on, slots-end, slots-all, tags-told}
+use Rattle.plan.proofs.VisitLaws.{slots-on, slots-end, slots-all, ended-is}
 use native.Mathlib.Omega.{arith}
 use mathlib.Core.Path.{_≡_, refl, sym, _∙_}
 use Prim.Native.Nat.{_+_, _-_, _*_, _≤_}
@@ -37,7 +37,7 @@ visit-requires-3 : tie.Need-visit-requires-3 Inv-loop μ-loop
 visit-requires-3 c κs = (c .before .before .before .before .before .pre .0, omega arith, c .before .before .before .before .before .pre .1, omega (arith, c .before .before .least .ensures))
 
 returns : tie.Need-returns Inv-loop μ-loop
-returns c = tags-told _ _ _ _ (c .told .ensures) _ (slots-end _ _ _ _ _ _ _ _ (c .before .before .before .loop-test .left) (c .before .before .visit3 .result) (c .before .before .visit3 .ensures .0) ∙ sym (c .before .before .before .before .loop .inv .2) ∙ slots-all _ _ _ _ _ _ (c .before .before .before .before .before .least .ensures))
+returns c = ended-is (c .before .visit3 .result) _ (c .ended .ensures) _ (slots-end _ _ _ _ _ _ _ _ (c .before .before .loop-test .left) (c .before .visit3 .result) (c .before .visit3 .ensures .0) ∙ sym (c .before .before .before .loop .inv .2) ∙ slots-all _ _ _ _ _ _ (c .before .before .before .before .least .ensures))
 
 pub mantissas-spec : {M : Type 1} → statement M
 mantissas-spec =

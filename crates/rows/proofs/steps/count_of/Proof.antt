@@ -6,7 +6,7 @@ use Rattle.rows.proofs.steps.count_of.Tie as tie
 
 returns : tie.Need-returns
 unfolding loopTo
-returns c = rw (eq-eqb _ _ (c .before .before .if1 .taken), c .cell-of .ensures, c .before .spot .ensures)
+returns c = rw (eq-eqb _ _ (c .before .before .if1 .taken), c .cell-of .ensures, c .before .spot .ensures .0)
 
 returns-2 : tie.Need-returns-2
 unfolding loopTo

@@ -7,7 +7,7 @@ use Rattle.rows.proofs.steps.tested.Tie as tie
 
 returns : tie.Need-returns
 unfolding atIn
-returns c = rw (eq-eqb _ _ (c .before .if1 .taken), c .spot .ensures)
+returns c = rw (eq-eqb _ _ (c .before .if1 .taken), c .spot .ensures .0)
 
 returns-2 : tie.Need-returns-2
 unfolding atIn
