@@ -36,7 +36,7 @@ mod theirs;
 use features::{features, FEATURES};
 use generate::{damage, Drawer, Kind, Random};
 use names::NAMES;
-use numbered::{read, Answer, Record, Seen, State};
+use numbered::{read, Record, Seen, State};
 use reference::frame::Frame;
 use std::collections::HashMap;
 use theirs::{answer_of, verdict};
@@ -60,9 +60,9 @@ fn case(src: &[u8]) -> Vec<u8> {
     match theirs {
         Err(_) => out.resize(69, 0),
         Ok(f) => {
-            let a: Answer = answer_of(&f);
+            let a = answer_of(&f);
             let (high, low) = sum(&f);
-            let numbers = a[3..34].iter().copied().chain([f.fields.len() as u64, high.into(), low.into()]);
+            let numbers = a[3..].iter().copied().chain([f.fields.len() as u64, high.into(), low.into()]);
             out.extend(numbers.flat_map(|n| u16::try_from(n).expect("16 bits").to_be_bytes()));
         }
     }

@@ -153,7 +153,7 @@ impl Both {
         self.turn += 1;
         let pattern = PATTERNS[self.turn % 2];
         self.rooms.fill(len, &pattern);
-        let mut answer = [0x5555_5555_5555_5555; 34];
+        let mut answer = [0x5555_5555_5555_5555; 76];
         #[cfg(not(alone))]
         let number = self.rooms.ours(src, len, &mut answer);
         #[cfg(alone)]
@@ -192,6 +192,7 @@ fn stand_in(_: &[u8], rooms: &mut Rooms, records: &[Record], walked: &Answer, an
 }
 
 /// An answer with enough room beside the Rust's: accepted or not, the kind of error and its message, the frame, and each record.
+/// The bits of the slots, which the Rust does not tell, are held to the width of the Rust's mantissas record of their block.
 fn beside(who: &str, theirs: &Result<Frame>, a: &Answer, at: impl Fn(usize) -> Record) -> std::result::Result<(), String> {
     if kind(a[0]) != verdict(theirs) {
         return Err(format!("{who} gives {} at {}, the Rust {:?}", a[0], a[1], theirs.as_ref().map(|f| f.bytes)));
@@ -205,8 +206,14 @@ fn beside(who: &str, theirs: &Result<Frame>, a: &Answer, at: impl Fn(usize) -> R
         }
         Ok(f) => {
             let frame = answer_of(f);
-            if frame != *a {
+            if frame[..] != a[..34] {
                 return Err(format!("{who} gives {a:?}, the Rust {frame:?}"));
+            }
+            for (b, slots) in a[34..].chunks(7).enumerate() {
+                let width: usize = f.fields.iter().filter(|t| t.name == "mantissas" && t.block == b as i8).map(|t| t.width).sum();
+                if slots.iter().sum::<u64>() != width as u64 {
+                    return Err(format!("{who} gives {slots:?} bits for the slots of block {b}, the Rust {width} for all"));
+                }
             }
             for (k, t) in f.fields.iter().enumerate() {
                 let r = at(k);

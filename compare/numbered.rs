@@ -152,6 +152,8 @@ pub struct State {
     pub block_starts: [usize; 6],
     pub mantissa_starts: [usize; 6],
     pub audio_end: usize,
+    /// The bits that each slot took, by block.
+    pub slot_bits: [[usize; 7]; 6],
 }
 
 impl State {
@@ -167,6 +169,7 @@ impl State {
             exps: [[0; 256]; 7], held: [(0, 0); 7], codes: None, csnroffst: 0, fsnroffst: [0; 7], fgaincod: [0; 7], leak: (0, 0),
             deltas: [[Delta::default(); 8]; 7], ndeltas: [0; 7], baps: [[0; 256]; 7], aht_read: [false; 7], aht_tags: 0,
             spx_blocks: 0, cpl_blocks: 0, block_starts: [0; 6], mantissa_starts: [0; 6], audio_end: 0,
+            slot_bits: [[0; 7]; 6],
         }
     }
 
@@ -196,8 +199,8 @@ pub struct Walk<'a, S> {
     pub block: i8,
 }
 
-/// The 34 numbers of an answer: number, place, records, and the frame.
-pub type Answer = [u64; 34];
+/// The 76 numbers of an answer: number, place, records, and the frame, of which the last 42 are bits by block and slot.
+pub type Answer = [u64; 76];
 
 /// Reads a slice with a room.
 pub fn read(src: &[u8], room: usize, records: &mut Vec<Record>, s: &mut State, seen: &mut Seen) -> Answer {
@@ -205,7 +208,7 @@ pub fn read(src: &[u8], room: usize, records: &mut Vec<Record>, s: &mut State, s
     *s = State::new();
     let mut w = Walk { src: &mut Slice(src), s, seen, records, room, at: 0, limit: 8 * src.len(), block: -1 };
     let end = w.audio().and_then(|()| w.tail());
-    let mut answer = [0; 34];
+    let mut answer = [0; 76];
     match end {
         Err(Stop(number, place)) => (answer[0], answer[1]) = (u64::from(number), place as u64),
         Ok(()) => {
@@ -227,6 +230,9 @@ fn frame(s: &State, a: &mut Answer) {
         a[25 + slot] = u64::from(s.ahtinu[slot])
     }
     (a[32], a[33]) = (s.spx_blocks, s.cpl_blocks);
+    for (k, &bits) in s.slot_bits.iter().flatten().enumerate() {
+        a[34 + k] = bits as u64
+    }
 }
 
 impl<S: Source> Walk<'_, S> {
@@ -1003,14 +1009,16 @@ impl<S: Source> Walk<'_, S> {
         self.keep(MANTISSAS, -1, first, 0)
     }
 
+    /// A grouped mantissa counts for the slot that opens the group: its bits are read there.
     fn slot_mantissas(&mut self, slot: usize, left: &mut [u8; 3]) -> Step<()> {
+        let first = self.at;
         if !self.s.ahtinu[slot] {
-            return self.conventional(slot, left);
-        }
-        if !self.s.aht_read[slot] {
+            self.conventional(slot, left)?;
+        } else if !self.s.aht_read[slot] {
             self.s.aht_tags += self.hybrid(slot)?;
             self.s.aht_read[slot] = true;
         }
+        self.s.slot_bits[self.s.blk][slot] = self.at - first;
         Ok(())
     }
 

@@ -82,7 +82,7 @@ fn turn(frames: &[Vec<u8>], mut read: impl FnMut(&[u8])) -> f64 {
 }
 
 fn time(set: &Set, rooms: &mut Rooms) {
-    let mut answer: Answer = [0; 34];
+    let mut answer: Answer = [0; 76];
     let (mut ours, mut theirs) = (f64::MAX, f64::MAX);
     let (mut bytes, mut records) = (0, 0);
     for f in &set.frames {

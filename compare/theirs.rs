@@ -1,5 +1,4 @@
 //! What the Rust's answer says, in the numbers of ours.
-use crate::numbered::Answer;
 use reference::error::{Error, Result};
 use reference::frame::Frame;
 
@@ -51,8 +50,8 @@ pub fn told(e: &Error) -> (u64, Option<u64>) {
     }
 }
 
-/// The Rust's frame as the numbers of an answer.
-pub fn answer_of(f: &Frame) -> Answer {
+/// The Rust's frame as the first numbers of an answer; it does not tell the bits of the slots.
+pub fn answer_of(f: &Frame) -> [u64; 34] {
     let mut a = [0; 34];
     a[1] = 8 * f.bytes as u64;
     a[2] = f.fields.len() as u64;

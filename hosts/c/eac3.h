@@ -41,7 +41,8 @@ enum eac3_answer {
     EAC3_AHT_SLOTS = 25,       /* seven, 1 or 0: channels 0 to 4, coupling, LFE */
     EAC3_SPX_BLOCKS = 32,      /* blocks with spectral extension */
     EAC3_CPL_BLOCKS = 33,      /* blocks with coupling */
-    EAC3_ANSWER = 34
+    EAC3_SLOT_BITS = 34,       /* bits of mantissas: seven for each of six blocks, in the order of EAC3_AHT_SLOTS */
+    EAC3_ANSWER = 76
 };
 
 /* Reads the frame at the beginning of `data`. Records go into six arrays side by side, as many as the shortest has room

@@ -4,7 +4,7 @@
 extern "C" {
     fn eac3_parse(
         data: &[u8], names: &mut [u8], blocks: &mut [i8], indexes: &mut [i16], firsts: &mut [u16], widths: &mut [u16], values: &mut [u32],
-        answer: &mut [u64; 34],
+        answer: &mut [u64; 76],
     ) -> u8;
 }
 
@@ -79,6 +79,8 @@ pub struct Frame {
     pub aht_slots: [bool; 7],
     pub spx_blocks: u8,
     pub cpl_blocks: u8,
+    /// The bits of mantissas of each block, by slot as in `aht_slots`.
+    pub slot_bits: [[u16; 7]; 6],
 }
 
 /// A refusal (docs/REFUSALS.md): its number, its bit place, and the records that were written before.
@@ -91,7 +93,7 @@ pub struct Refusal {
 
 /// Reads the frame at the beginning of `data`; its records stand in the room afterwards.
 pub fn parse<const N: usize>(data: &[u8], room: &mut Room<N>) -> Result<Frame, Refusal> {
-    let mut a = [0u64; 34];
+    let mut a = [0u64; 76];
     // The function meets no premise of its caller: it is proved for every slice and every room.
     let number = unsafe {
         eac3_parse(
@@ -119,5 +121,6 @@ pub fn parse<const N: usize>(data: &[u8], room: &mut Room<N>) -> Result<Frame, R
         aht_slots: std::array::from_fn(|i| a[25 + i] == 1),
         spx_blocks: a[32] as u8,
         cpl_blocks: a[33] as u8,
+        slot_bits: std::array::from_fn(|b| std::array::from_fn(|slot| a[34 + 7 * b + slot] as u16)),
     })
 }
