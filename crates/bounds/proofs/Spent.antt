@@ -1,11 +1,12 @@
 -- What a walk inside a span tells at the place where it ends: the bits that each slot took are no more than the frame has. Assumes nothing.
-use mathlib.Core.Path.{_≡_, refl, subst}
-use mathlib.Core.Bool.{Bool, true, false, cond, not, _&&_, _||_}
+use mathlib.Core.Path.{_≡_, refl, ap, subst, _∙_}
+use mathlib.Core.Bool.{Bool, true, false, true≢false, cond, not, _&&_, _||_}
 use mathlib.Core.List.{List, [], _∷_}
-use Prim.Native.Nat.{ℕ, zero, suc, _+_, _-_, min, _≤_}
+use Prim.Native.Nat.{ℕ, zero, suc, _+_, _-_, min, _≤_, _<_}
 use native.Mathlib.Omega.{arith}
 use lib.Dec.{leb}
-use lib.ListN.{getD, set, replicate}
+use lib.ListN.{length, getD, set, drop, replicate, length-set, getD-replicate}
+use lib.Seq.{getD-set-other}
 use borrow.Author.Tests.{leb-true}
 use Rattle.bits.specs.Bits.{bitsAt}
 use Rattle.reading.specs.Tree.{Skim, stop, fail, at, take, _>>-_}
@@ -106,3 +107,120 @@ pub bits-most : (st : State) (b : List ℕ) (p l m : ℕ) → p ≤ m → l ≤ 
 unfolding mantissasIn mantissasOf
 bits-most st b p l m h k v e =
     told-skim (λ v q. (i : ℕ) → getD v (suc i) 0 ≤ m) (mantissasIn st) b p l (few-slots (st .bins .baps) _ l m k 0 _ false _ p ((λ i. none-most 7 m i), h)) v e
+
+-- the bits of the slots add up to what the walk of a block takes
+unfoldable pub total : List ℕ → ℕ
+total [] = 0
+total (x ∷ xs) = x + total xs
+
+total-set : (xs : List ℕ) (k v : ℕ) → k < length xs → getD xs k 0 ≡ 0 → total (set xs k v) ≡ total xs + v
+unfolding total
+total-set [] k v h e = absurd (let z : ⊥ = omega arith in z)
+total-set (x ∷ xs) zero v h e = omega arith
+total-set (x ∷ xs) (suc k) v h e = let r = total-set xs k v (omega arith) e in omega arith
+
+-- a walk goes forward
+told-ahead : {A : Type 0} (s : Skim A) (p l m : ℕ) → m ≤ p → Told (λ _ q. m ≤ q) s p l
+told-ahead (stop a) p l m h = h
+told-ahead (fail n) p l m h = tt
+told-ahead (at j) p l m h = told-ahead (j p) p l m h
+told-ahead (take w j) p l m h = λ i v. told-ahead (j v) (p + w) l m (omega arith)
+
+told-taken : {A : Type 0} (s : Skim A) (p l : ℕ) → Told (λ (c : Counted A) q. p + c .bits ≡ q) (counting s) p l
+unfolding counting
+told-taken s p l = told-bind (λ _ q. p ≤ q) (λ c q. p + c .bits ≡ q) s (λ a. at (λ q. stop (counted a (q - p)))) p l (told-ahead s p l p (omega arith)) (λ a q i. omega arith)
+
+module _ (baps : List ℕ) (shape : Shape) (l start : ℕ) where
+  -- where the walk stands: the channels from ch on, coupling where it is still to come, and LFE have taken nothing
+  record Adds (ch : ℕ) (got : Bool) (a : Along) (q : ℕ) : Type 0 where
+    seven : length (a .bits) ≡ 7
+    adds : start + total (a .bits) ≡ q
+    channels : (i : ℕ) → ch ≤ i → i < 5 → getD (a .bits) i 0 ≡ 0
+    coupling : got ≡ false → getD (a .bits) CPL 0 ≡ 0
+    lfe : getD (a .bits) LFE 0 ≡ 0
+
+  -- one slot that has taken nothing takes v bits
+  module _ (ch : ℕ) (got : Bool) (a : Along) (q : ℕ) (h : Adds ch got a q) (slot v r : ℕ) (k : slot < 7) (none : getD (a .bits) slot 0 ≡ 0) (e : q + v ≡ r) where
+    taken-seven : length (set (a .bits) slot v) ≡ 7
+    taken-seven = length-set (a .bits) slot v ∙ h .seven
+
+    taken-adds : start + total (set (a .bits) slot v) ≡ r
+    taken-adds = let z = total-set (a .bits) slot v (omega (arith, h .seven)) none in omega (arith, h .adds)
+
+    taken-other : (i : ℕ) → ¬ (i ≡ slot) → getD (set (a .bits) slot v) i 0 ≡ getD (a .bits) i 0
+    taken-other i n = getD-set-other (a .bits) slot i v 0 n
+
+  -- a slot: nothing changes, or it takes some bits
+  adds-visit : (Q : Along → ℕ → Type 0) (a : Along) (q slot : ℕ) → Q a q → ((b : Along) (v r : ℕ) → b .bits ≡ set (a .bits) slot v → q + v ≡ r → Q b r) → Told Q (visitOf baps shape slot a) q l
+  unfolding visitOf
+  adds-visit Q a q slot same next =
+      told-if Q (readOf shape slot) _ _ q l same
+      (told-if Q (getD (shape .ahtinu) slot false) _ _ q l
+      (told-bind (λ c r. q + c .bits ≡ r) Q (counting (ahtOf baps slot _ _)) _ q l (told-taken (ahtOf baps slot _ _) q l) (λ c r e. next _ (c .bits) r refl e))
+      (told-bind (λ c r. q + c .bits ≡ r) Q (counting (conventionalOf baps slot _ _ (a .groups))) _ q l (told-taken (conventionalOf baps slot _ _ (a .groups)) q l) (λ c r e. next _ (c .bits) r refl e)))
+
+  adds-channel : (ch : ℕ) (got : Bool) (a : Along) (q : ℕ) → ch < 5 → Adds ch got a q → Told (Adds (suc ch) got) (visitIf baps shape true ch a) q l
+  unfolding visitIf
+  adds-channel ch got a q k h =
+      let none = h .channels ch (omega arith) k in
+      adds-visit (Adds (suc ch) got) a q ch
+      (record { seven = h .seven; adds = h .adds; channels = λ i j m. h .channels i (omega arith) m; coupling = h .coupling; lfe = h .lfe })
+      (λ b v r eb er. record {
+        seven = ap length eb ∙ taken-seven ch got a q h ch v r (omega arith) none er;
+        adds = ap (λ x. start + total x) eb ∙ taken-adds ch got a q h ch v r (omega arith) none er;
+        channels = λ i j m. ap (λ x. getD x i 0) eb ∙ taken-other ch got a q h ch v r (omega arith) none er i (λ z. omega arith) ∙ h .channels i (omega arith) m;
+        coupling = λ g. ap (λ x. getD x CPL 0) eb ∙ taken-other ch got a q h ch v r (omega arith) none er CPL (λ z. omega arith) ∙ h .coupling g;
+        lfe = ap (λ x. getD x LFE 0) eb ∙ taken-other ch got a q h ch v r (omega arith) none er LFE (λ z. omega arith) ∙ h .lfe;
+      })
+
+  adds-coupling : (c got : Bool) (ch : ℕ) (a : Along) (q : ℕ) → ch ≤ 5 → Adds ch got a q → Told (Adds ch (got || c)) (visitIf baps shape (c && not got) CPL a) q l
+  unfolding visitIf
+  adds-coupling false true ch a q k h = h
+  adds-coupling false false ch a q k h = h
+  adds-coupling true true ch a q k h = h
+  adds-coupling true false ch a q k h =
+      let none = h .coupling refl in
+      adds-visit (Adds ch true) a q CPL
+      (record { seven = h .seven; adds = h .adds; channels = h .channels; coupling = λ e. absurd (true≢false e); lfe = h .lfe })
+      (λ b v r eb er. record {
+        seven = ap length eb ∙ taken-seven ch false a q h CPL v r (omega arith) none er;
+        adds = ap (λ x. start + total x) eb ∙ taken-adds ch false a q h CPL v r (omega arith) none er;
+        channels = λ i j m. ap (λ x. getD x i 0) eb ∙ taken-other ch false a q h CPL v r (omega arith) none er i (λ z. omega arith) ∙ h .channels i j m;
+        coupling = λ e. absurd (true≢false e);
+        lfe = ap (λ x. getD x LFE 0) eb ∙ taken-other ch false a q h CPL v r (omega arith) none er LFE (λ z. omega arith) ∙ h .lfe;
+      })
+
+  abbrev Whole : List ℕ → ℕ → Type 0
+  Whole v r = start + total (drop 1 v) ≡ r
+
+  adds-lfe : (c : Bool) (ch : ℕ) (got : Bool) (a : Along) (q : ℕ) → Adds ch got a q → Told (λ b r. start + total (b .bits) ≡ r) (visitIf baps shape c LFE a) q l
+  unfolding visitIf
+  adds-lfe true ch got a q h =
+      adds-visit (λ b r. start + total (b .bits) ≡ r) a q LFE (h .adds)
+      (λ b v r eb er. ap (λ x. start + total x) eb ∙ taken-adds ch got a q h LFE v r (omega arith) (h .lfe) er)
+  adds-lfe false ch got a q h = h .adds
+
+  adds-slots : (ch n : ℕ) (got : Bool) (a : Along) (q : ℕ) → ch + n ≤ 5 → Adds ch got a q → Told Whole (slotsOf baps shape ch n got a) q l
+  unfolding slotsOf
+  adds-slots ch zero got a q k h = told-bind (λ b r. start + total (b .bits) ≡ r) Whole (visitIf baps shape (shape .lfeon) LFE a) _ q l (adds-lfe (shape .lfeon) ch got a q h) (λ b r e. e)
+  adds-slots ch (suc n) got a q k h =
+      told-bind (Adds (suc ch) got) Whole (visitIf baps shape true ch a) _ q l (adds-channel ch got a q (omega arith) h)
+      (λ b r i. told-bind (Adds (suc ch) (got || coupled)) Whole (visitIf baps shape (coupled && not got) CPL b) _ r l (adds-coupling coupled got (suc ch) b r (omega arith) i)
+      (λ c u j. adds-slots (suc ch) n (got || coupled) c u (omega arith) j))
+    where
+      coupled : Bool
+      coupled = shape .cplinu && getD (shape .chincpl) ch false
+
+-- so of the numbers that a reading tells of a block
+pub bits-add-up : (st : State) (b : List ℕ) (p l : ℕ) (v : List ℕ) → skim (mantissasIn st) b p l .result ≡ accepted v → p + total (drop 1 v) ≡ skim (mantissasIn st) b p l .place
+unfolding mantissasIn mantissasOf total
+bits-add-up st b p l v e =
+    told-skim (λ v r. p + total (drop 1 v) ≡ r) (mantissasIn st) b p l
+    (adds-slots (st .bins .baps) _ l p 0 _ false _ p (omega arith) (record {
+      seven = refl;
+      adds = omega arith;
+      channels = λ i j m. getD-replicate {A = ℕ} 7 i 0 0 (omega arith);
+      coupling = λ _. refl;
+      lfe = refl;
+    }))
+    v e

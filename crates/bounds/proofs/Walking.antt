@@ -6,7 +6,7 @@ use mathlib.Core.Logic.{inl, inr}
 use Prim.Native.Nat.{ℕ, zero, suc, _+_, _-_, _*_, _^_, max, _≤_, _<_}
 use native.Mathlib.Omega.{arith}
 use lib.Dec.{leb, eqb}
-use lib.ListN.{length, getD}
+use lib.ListN.{length, getD, drop}
 use Rattle.bits.specs.Bits.{bitsAt}
 use Rattle.bits.proofs.BitLaws.{bitsAt-lt}
 use Rattle.reading.specs.Tree.{Part, Tree, done, refuse, ahead, _>>=_}
@@ -20,18 +20,21 @@ use Rattle.derivations.specs.Sets.{exponentsOf}
 use Rattle.derivations.specs.Mantissas.{mantissasIn}
 use Rattle.rows.specs.Syntax.{Cond, Count, Value, Item, Block, element, elements, span, mantissas, exponents, when, each, reject, reject-at, put, fill, derive, end, _⨾_, _⧺_, none, holdsOf, countOf, amountOf, turns, filled, one, item, meaning}
 use Rattle.bounds.specs.Bounds.{tagsMost}
+use Rattle.bounds.proofs.Reaches.{skim-reaches}
+use Rattle.bounds.proofs.Spent.{total, bits-add-up}
 use Rattle.bounds.proofs.Tags.{eight-told, tags-most}
-use Rattle.bounds.specs.Along.{Point, Has, Then, Turning, Inside, Along}
+use Rattle.bounds.specs.Along.{Among, Point, Has, Then, Turning, Inside, Along}
 
 -- the records so far only grow
 pub record Grows (es fs : List Entry) : Type 0 where
   pub has : (n : ℕ) → Has n es → Has n fs
+  pub keeps : (e : Entry) → Among e es → Among e fs
 
 pub grows-refl : (es : List Entry) → Grows es es
-grows-refl es = record { has = λ n h. h }
+grows-refl es = record { has = λ n h. h; keeps = λ e h. h }
 
 pub grows-trans : (es fs gs : List Entry) → Grows es fs → Grows fs gs → Grows es gs
-grows-trans es fs gs f g = record { has = λ n h. g .has n (f .has n h) }
+grows-trans es fs gs f g = record { has = λ n h. g .has n (f .has n h); keeps = λ e h. g .keeps e (f .keeps e h) }
 
 has-left : (n : ℕ) (es fs : List Entry) → Has n es → Has n (es ++ fs)
 has-left n (e ∷ es) fs (inl h) = inl h
@@ -41,8 +44,17 @@ has-last : (es : List Entry) (e : Entry) (fs : List Entry) → Has (e .field .na
 has-last [] e fs = inl refl
 has-last (x ∷ es) e fs = inr (has-last es e fs)
 
+member-left : (e : Entry) (es fs : List Entry) → Among e es → Among e (es ++ fs)
+member-left e (x ∷ es) fs (inl h) = inl h
+member-left e (x ∷ es) fs (inr h) = inr (member-left e es fs h)
+
+member-last : (e : Entry) (es fs : List Entry) → Among e (es ++ (fs ++ (e ∷ [])))
+member-last e [] [] = inl refl
+member-last e [] (x ∷ fs) = inr (member-last e [] fs)
+member-last e (x ∷ es) fs = inr (member-last e es fs)
+
 pub grows-append : (es fs : List Entry) → Grows es (es ++ fs)
-grows-append es fs = record { has = λ n h. has-left n es fs h }
+grows-append es fs = record { has = λ n h. has-left n es fs h; keeps = λ e h. member-left e es fs h }
 
 module _ (s : List ℕ) (l : ℕ) where
   -- what follows a tree that is accepted
@@ -193,9 +205,10 @@ module _ (s : List ℕ) (l : ℕ) (Q : Item → Point) where
   }
 
   pub walked-mantissas : (name : ℕ) (a : Addr) (st : State) (p : ℕ) (es : List Entry) {R : Point}
-      → ((vs : List ℕ) (q : ℕ) (fs : List Entry) → length vs ≡ 8 → getD vs 0 0 ≤ tagsMost → Grows es fs → R (storedAll st (placeOf a (st .cells)) vs) q fs) → Walked (mantissas name a) st p es R
+      → ((vs : List ℕ) (q : ℕ) (fs : List Entry) → length vs ≡ 8 → getD vs 0 0 ≤ tagsMost → Grows es fs → p + total (drop 1 vs) ≡ q → q ≤ max p l
+      → Among (region (partOf name none (st .cells)) p (q - p)) fs → R (storedAll st (placeOf a (st .cells)) vs) q fs) → Walked (mantissas name a) st p es R
   unfolding Inside item run after
-  walked-mantissas name a st p es {R} h = record { inside = tt; ends = go (O .result) (λ v e. (eight-told st s p l v e, tags-most st s p l v e)) }
+  walked-mantissas name a st p es {R} h = record { inside = tt; ends = go (O .result) (λ v e. (eight-told st s p l v e, tags-most st s p l v e, bits-add-up st s p l v e, skim-reaches (mantissasIn st) s p l)) }
     where
       O : Outcome (List ℕ)
       O = skim (mantissasIn st) s p l
@@ -206,11 +219,11 @@ module _ (s : List ℕ) (l : ℕ) (Q : Item → Point) where
       F : List ℕ → ℕ → Outcome State
       F v e = cons (region x p (e - p)) (out (accepted (storedAll st (placeOf a (st .cells)) v)) e [])
 
-      go : (r : Result (List ℕ)) → ((v : List ℕ) → r ≡ accepted v → (length v ≡ 8) × (getD v 0 0 ≤ tagsMost)) → (c : State) → andThen r (O .place) (O .records) F .result ≡ accepted c
+      go : (r : Result (List ℕ)) → ((v : List ℕ) → r ≡ accepted v → (length v ≡ 8) × (getD v 0 0 ≤ tagsMost) × (p + total (drop 1 v) ≡ O .place) × (O .place ≤ max p l)) → (c : State) → andThen r (O .place) (O .records) F .result ≡ accepted c
           → R c (andThen r (O .place) (O .records) F .place) (es ++ andThen r (O .place) (O .records) F .records)
       go (accepted v) t c e =
           let z : storedAll st (placeOf a (st .cells)) v ≡ c = cc in
-          subst (λ y. R y (O .place) (es ++ (O .records ++ (region x p (O .place - p) ∷ [])))) z (h v (O .place) _ (t v refl .0) (t v refl .1) (grows-append es _))
+          subst (λ y. R y (O .place) (es ++ (O .records ++ (region x p (O .place - p) ∷ [])))) z (h v (O .place) _ (t v refl .0) (t v refl .1) (grows-append es _) (t v refl .2) (t v refl .3) (member-last (region x p (O .place - p)) es (O .records)))
       go (refused n) t c e = absurd (let z : _≡_ {A = ℕ} 0 1 = cc in omega arith)
 
   pub walked-exponents : (x : Sum) (name : ℕ) (i : Sum) (st : State) (p : ℕ) (es : List Entry) {R : Point}

@@ -13,7 +13,11 @@ use Rattle.rows.specs.Syntax.{Item, Block, element, elements, span, mantissas, 
 abbrev pub Point : Type 1
 Point = State → ℕ → List Entry → Type 0
 
--- a record of this name is among the records
+-- a record is among the records; one of this name is
+abbrev pub Among : Entry → List Entry → Type 0
+Among e [] = ⊥
+Among e (x ∷ xs) = (x ≡ e) ⊎ Among e xs
+
 abbrev pub Has : ℕ → List Entry → Type 0
 Has n [] = ⊥
 Has n (e ∷ es) = (e .field .name ≡ n) ⊎ Has n es

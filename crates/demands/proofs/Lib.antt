@@ -4,3 +4,4 @@ pub mod Gapless
 pub mod Answers
 pub mod Common
 pub mod Suffices
+pub mod SlotBits

@@ -3,3 +3,4 @@ pub mod Answers
 pub mod Gapless
 pub mod Common
 pub mod Suffices
+pub mod SlotBits

@@ -1,0 +1,198 @@
+-- The bits of the slots of each block of an accepted frame add up to the width of its mantissas record. Assumes nothing.
+use mathlib.Core.Path.{_≡_, refl, ap, sym, _∙_, subst}
+use mathlib.Core.Bool.{Bool, true, false, cond}
+use mathlib.Core.List.{List, [], _∷_, _++_, map, append-assoc}
+use mathlib.Core.Option.{some}
+use mathlib.Core.Logic.{_⊎_, inl, inr}
+use Prim.Native.Nat.{ℕ, zero, suc, _+_, _-_, _*_, _<_}
+use native.Mathlib.Omega.{arith}
+use lib.Dec.{leb, eqb}
+use lib.IntN.{pos}
+use lib.ListN.{length, getD, getElem?}
+use Rattle.bits.specs.Bits.{bitsAt}
+use Rattle.reading.specs.Tree.{Tree, done, refuse, ahead, here, read, span, scan}
+use Rattle.reading.specs.Run.{Field, Entry, element, region, Result, accepted, refused, Outcome, out, cons, andThen, after, skim, run}
+use Rattle.reading.specs.Room.{size, cut}
+use Rattle.reading.specs.Frame.{TailNames, plain, auxdataeAt, ending, tail, finish, framed, sized, parse}
+use Rattle.reading.proofs.Rooms.{cut-same}
+use Rattle.names.specs.Names.{mantissas}
+use Rattle.cells.specs.Cells.{State, cellOf}
+use Rattle.cells.specs.Names.{NUMBLKS, SLOT-BITS}
+use Rattle.sideinfo.specs.Steps.{sumOf, tabOf}
+use Rattle.rows.specs.Syntax.{meaning}
+use Rattle.annex.specs.Annex.{header, body}
+use Rattle.annex.specs.Frame.{start, bytesOf, tailNames, eac3}
+use Rattle.answer.specs.Answer.{slotBitsAt, slotBitsIn, answerBy, frameOf}
+use Rattle.answer.specs.declared.Answer.{Answer}
+use Rattle.answer.specs.declared.Frame.{Frame}
+use Rattle.answer.specs.declared.SlotBits.{SlotBits as Bits}
+use Rattle.bounds.specs.Along.{Among}
+use Rattle.slot_sums.specs.SlotSums.{Adds}
+use Rattle.slot_sums.proofs.Sums.{slots-add-up}
+use Rattle.demands.specs.Calls.{Call, count, nth, Accepts}
+use Rattle.demands.specs.SlotBits.{bitsOf, MantissasOf, SlotBits}
+use Rattle.demands.proofs.Calls.{outcome, is, accepts, held}
+
+-- a tree that gives only a
+abbrev Gives : {A : Type 0} → A → Tree A → Type 0
+Gives a (done x) = x ≡ a
+Gives a (refuse n) = Unit {0}
+Gives a (ahead n w) = Unit {0}
+Gives a (here k) = (p : ℕ) → Gives a (k p)
+Gives a (read q w k) = (v : ℕ) → Gives a (k v)
+Gives a (span q w t) = Gives a t
+Gives a (scan q x k) = (v : List ℕ) → Gives a (k v)
+
+gives-if : {A : Type 0} (a : A) (c : Bool) (t u : Tree A) → Gives a t → Gives a u → Gives a (cond c t u)
+gives-if a true t u h k = h
+gives-if a false t u h k = k
+
+gives-run : {A : Type 0} (a : A) (t : Tree A) (b : List ℕ) (p l : ℕ) → Gives a t → (x : A) → run t b p l .result ≡ accepted x → x ≡ a
+unfolding run after
+gives-run a (done y) b p l h x e = let z : y ≡ x = cc in sym z ∙ h
+gives-run a (refuse n) b p l h x e = absurd (let z : _≡_ {A = ℕ} 0 1 = cc in let o : ⊥ = omega arith in o)
+gives-run a (ahead n w) b p l h x e = absurd (let z : _≡_ {A = ℕ} 0 1 = cc in let o : ⊥ = omega arith in o)
+gives-run a (here k) b p l h x e = gives-run a (k p) b p l (h p) x e
+gives-run {A} a (read q w k) b p l h x e = go (leb (p + w) l) (gives-run a (k (bitsAt b p w)) b (p + w) l (h (bitsAt b p w)) x) e
+  where
+    go : (c : Bool) → (run (k (bitsAt b p w)) b (p + w) l .result ≡ accepted x → x ≡ a) → cond c (cons (element q p w (bitsAt b p w)) (run (k (bitsAt b p w)) b (p + w) l)) (out (refused 8) p []) .result ≡ accepted x → x ≡ a
+    go true f e = f e
+    go false f e = absurd (let z : _≡_ {A = ℕ} 0 1 = cc in let o : ⊥ = omega arith in o)
+gives-run {A} a (span q w t) b p l h x e = go (leb (p + w) l) (gives-run a t b (p + w) l h x) e
+  where
+    go : (c : Bool) → (run t b (p + w) l .result ≡ accepted x → x ≡ a) → cond c (cons (region q p w) (run t b (p + w) l)) (out (refused 8) p []) .result ≡ accepted x → x ≡ a
+    go true f e = f e
+    go false f e = absurd (let z : _≡_ {A = ℕ} 0 1 = cc in let o : ⊥ = omega arith in o)
+gives-run {A} a (scan q y k) b p l h x e = go (skim y b p l .result) (λ v f. gives-run a (k v) b (skim y b p l .place) l (h v) x f) e
+  where
+    O : Outcome (List ℕ)
+    O = skim y b p l
+
+    go : (r : Result (List ℕ)) → ((v : List ℕ) → run (k v) b (O .place) l .result ≡ accepted x → x ≡ a)
+        → andThen r (O .place) (O .records) (λ v e. cons (region q p (e - p)) (run (k v) b e l)) .result ≡ accepted x → x ≡ a
+    go (accepted v) f e = f v e
+    go (refused n) f e = absurd (let z : _≡_ {A = ℕ} 0 1 = cc in let o : ⊥ = omega arith in o)
+
+gives-tail : {A : Type 0} (names : TailNames) (v l : ℕ) (a : A) → Gives a (tail names v l a)
+unfolding tail ending
+gives-tail names v l a =
+    let ends : Gives a (ending names a) = λ _ _ _. refl in
+    λ p. gives-if a (leb (p + 18) l)
+    (cond (eqb v 1)
+    (cond (leb (p + 32) l)
+    (span (plain (names .auxbits)) (l - 32 - p) (read (plain (names .auxdatal)) 14 (λ n. cond (leb n (l - 32 - p)) (ending names a) (ahead 32 1))))
+    (ahead 31 (auxdataeAt l - p + 1)))
+    (span (plain (names .auxbits)) (auxdataeAt l - p) (ending names a)))
+    (refuse 30)
+    (gives-if a (eqb v 1)
+    (cond (leb (p + 32) l)
+    (span (plain (names .auxbits)) (l - 32 - p) (read (plain (names .auxdatal)) 14 (λ n. cond (leb n (l - 32 - p)) (ending names a) (ahead 32 1))))
+    (ahead 31 (auxdataeAt l - p + 1)))
+    (span (plain (names .auxbits)) (auxdataeAt l - p) (ending names a))
+    (gives-if a (leb (p + 32) l)
+    (span (plain (names .auxbits)) (l - 32 - p) (read (plain (names .auxdatal)) 14 (λ n. cond (leb n (l - 32 - p)) (ending names a) (ahead 32 1))))
+    (ahead 31 (auxdataeAt l - p + 1))
+    (λ n. gives-if a (leb n (l - 32 - p)) (ending names a) (ahead 32 1) ends tt) tt)
+    ends)
+    tt
+
+-- the parts of a frame that is accepted: its header and its body, whose state it gives; the records of both come first
+record Parts (s : List ℕ) (st : State) (o : Outcome State) : Type 0 where
+  head : State
+  headed : run (meaning header start) s 0 48 .result ≡ accepted head
+  bodied : run (meaning body head) s (run (meaning header start) s 0 48 .place) (8 * bytesOf head) .result ≡ accepted st
+  more : List Entry
+  lists : o .records ≡ (run (meaning header start) s 0 48 .records ++ run (meaning body head) s (run (meaning header start) s 0 48 .place) (8 * bytesOf head) .records) ++ more
+
+parts : (s : List ℕ) (st : State) → parse eac3 s .result ≡ accepted st → Parts s st (parse eac3 s)
+unfolding parse sized framed finish after eac3
+parts s st = six (leb 6 (length s))
+  where
+    O : Outcome State
+    O = run (meaning header start) s 0 48
+
+    B : State → Outcome State
+    B h = run (meaning body h) s (O .place) (8 * bytesOf h)
+
+    T : State → State → ℕ → Outcome State
+    T h a p = run (tail tailNames (bitsAt s (auxdataeAt (8 * bytesOf h)) 1) (8 * bytesOf h) a) s p (8 * bytesOf h)
+
+    W : State → ℕ → Outcome State
+    W h p = let r = andThen (run (meaning body h) s p (8 * bytesOf h) .result) (run (meaning body h) s p (8 * bytesOf h) .place) (run (meaning body h) s p (8 * bytesOf h) .records) (T h) in cond (leb (bytesOf h) (length s)) r (out (refused 4) p [])
+
+    tailed : (h : State) → O .result ≡ accepted h → (r : Result State) → B h .result ≡ r → andThen r (B h .place) (B h .records) (T h) .result ≡ accepted st
+        → (B h .result ≡ accepted st) × ((more : List Entry) × (andThen r (B h .place) (B h .records) (T h) .records ≡ B h .records ++ more))
+    tailed h q (accepted a) e d = let z : st ≡ a = gives-run a _ s (B h .place) (8 * bytesOf h) (gives-tail tailNames _ (8 * bytesOf h) a) st d in (e ∙ ap accepted (sym z), (T h a (B h .place) .records, refl))
+    tailed h q (refused n) e d = absurd (let z : _≡_ {A = ℕ} 0 1 = cc in let o : ⊥ = omega arith in o)
+
+    fits : (h : State) → O .result ≡ accepted h → (c : Bool)
+        → cond c (andThen (B h .result) (B h .place) (B h .records) (T h)) (out (refused 4) (O .place) []) .result ≡ accepted st
+        → (B h .result ≡ accepted st) × ((more : List Entry) × (cond c (andThen (B h .result) (B h .place) (B h .records) (T h)) (out (refused 4) (O .place) []) .records ≡ B h .records ++ more))
+    fits h q true d = tailed h q (B h .result) refl d
+    fits h q false d = absurd (let z : _≡_ {A = ℕ} 0 1 = cc in let o : ⊥ = omega arith in o)
+
+    first : (r : Result State) → O .result ≡ r → andThen r (O .place) (O .records) W .result ≡ accepted st → Parts s st (andThen r (O .place) (O .records) W)
+    first (accepted h) q d =
+        let t = fits h q (leb (bytesOf h) (length s)) d in
+        record { head = h; headed = q; bodied = t .0; more = t .1 .0; lists = ap (λ es. O .records ++ es) (t .1 .1) ∙ sym (append-assoc (O .records) (B h .records) (t .1 .0)) }
+    first (refused n) q d = absurd (let z : _≡_ {A = ℕ} 0 1 = cc in let o : ⊥ = omega arith in o)
+
+    six : (c : Bool) → cond c (andThen (O .result) (O .place) (O .records) W) (out (refused 1) 0 []) .result ≡ accepted st → Parts s st (cond c (andThen (O .result) (O .place) (O .records) W) (out (refused 1) 0 []))
+    six true d = first (O .result) refl d
+    six false d = absurd (let z : _≡_ {A = ℕ} 0 1 = cc in let o : ⊥ = omega arith in o)
+
+among-left : (e : Entry) (es fs : List Entry) → Among e es → Among e (es ++ fs)
+among-left e (x ∷ es) fs (inl h) = inl h
+among-left e (x ∷ es) fs (inr h) = inr (among-left e es fs h)
+
+among-at : (e : Entry) (es : List Entry) → Among e es → (i : ℕ) × (getElem? (map (λ (e : Entry). e .field) es) i ≡ some (e .field))
+among-at e (x ∷ es) (inl h) = (0, ap (λ (e : Entry). some (e .field)) h)
+among-at e (x ∷ es) (inr h) = let r = among-at e es h in (suc (r .0), r .1)
+
+tab-at : {A : Type 0} (f : ℕ → A) (d : A) (i n k : ℕ) → k < n → getD (tabOf f i n) k d ≡ f (i + k)
+unfolding tabOf
+tab-at f d i zero k h = absurd (let z : ⊥ = omega arith in z)
+tab-at f d i (suc n) zero h = ap f (let z : i ≡ i + 0 = omega arith in z)
+tab-at f d i (suc n) (suc k) h = tab-at f d (suc i) n k (omega arith) ∙ ap f (let z : suc i + k ≡ i + suc k = omega arith in z)
+
+sum-same : (f g : ℕ → ℕ) (n : ℕ) → ((i : ℕ) → i < n → f i ≡ g i) → sumOf f n ≡ sumOf g n
+unfolding sumOf
+sum-same f g zero h = refl
+sum-same f g (suc n) h = let r = sum-same f g n (λ i k. h i (omega arith)) in let z = h n (omega arith) in omega arith
+
+-- the bits that the answer holds are those of the cells
+bits-are : (m : List ℕ) (j slot : ℕ) → j < 6 → slot < 7 → getD (getD (slotBitsIn m) j (record { bits = [] }) .bits) slot 0 ≡ cellOf m (SLOT-BITS + 8 * j + slot)
+bits-are m j slot h k =
+    ap (λ (x : Bits). getD (x .bits) slot 0) (tab-at (λ b. slotBitsAt m (SLOT-BITS + 8 * b)) (record { bits = [] }) 0 6 j h)
+    ∙ tab-at (λ i. cellOf m (SLOT-BITS + 8 * (0 + j) + i)) 0 0 7 slot k
+    ∙ ap (cellOf m) (let z : SLOT-BITS + 8 * (0 + j) + (0 + slot) ≡ SLOT-BITS + 8 * j + slot = omega arith in z)
+
+found : {s : List ℕ} (c : Call s) (j i : ℕ) (f : Field) → i < count c → nth c i ≡ f → f .name ≡ mantissas → f .block ≡ pos j → f .width ≡ sumOf (bitsOf c j) 7 → MantissasOf c j
+found c j i f h e n b w = record {
+  place = i;
+  among = h;
+  name = ap (λ (x : Field). x .name) e ∙ n;
+  block = ap (λ (x : Field). x .block) e ∙ b;
+  width = ap (λ (x : Field). x .width) e ∙ w;
+}
+
+pub slot-bits : (s : List ℕ) (c : Call s) → SlotBits s c
+slot-bits s c = record { adds-up = λ a j h. go a j h }
+  where
+    go : Accepts c → (j : ℕ) → j < c .answer .frame .numblks → MantissasOf c j
+    go a j h =
+        let u = accepts c a in
+        let st = u .0 in
+        let same : outcome c ≡ parse eac3 s = cut-same (size (c .lent)) (parse eac3 s) (λ q. let z : accepted st ≡ refused 33 = sym (u .1) ∙ q in let y : _≡_ {A = ℕ} 0 1 = cc in let o : ⊥ = omega arith in o) in
+        let p : parse eac3 s .result ≡ accepted st = ap (λ (o : Outcome State). o .result) (sym same) ∙ u .1 in
+        let P = parts s st p in
+        let F : c .answer .frame ≡ frameOf (st .cells) (outcome c .place) (0 + length (outcome c .records)) = ap (λ (x : Answer). x .frame) (is c ∙ ap (λ (r : Result State). answerBy r (outcome c .place) (0 + length (outcome c .records))) (u .1)) in
+        let k : j < cellOf (st .cells) NUMBLKS = subst (λ n. j < n) (ap (λ (x : Frame). x .numblks) F) h in
+        let D = slots-add-up s (P .head) st (P .headed) (P .bodied) j k in
+        let X = D .1 in
+        let A : Among (X .entry) (outcome c .records) = subst (Among (X .entry)) (sym (ap (λ (o : Outcome State). o .records) same ∙ P .lists)) (among-left (X .entry) (run (meaning header start) s 0 48 .records ++ run (meaning body (P .head)) s (run (meaning header start) s 0 48 .place) (8 * bytesOf (P .head)) .records) (P .more) (X .among)) in
+        let T = among-at (X .entry) (outcome c .records) A in
+        let H = held c (T .0) (X .entry .field) (T .1) in
+        found c j (T .0) (X .entry .field) (H .0) (H .1) (X .name) (X .block)
+        (X .width
+        ∙ sum-same (λ slot. cellOf (st .cells) (SLOT-BITS + 8 * j + slot)) (bitsOf c j) 7 (λ slot i. sym (ap (λ (x : Frame). getD (getD (x .«slot_bits») j (record { bits = [] }) .bits) slot 0) F ∙ bits-are (st .cells) j slot (D .0) i)))

@@ -1,0 +1,34 @@
+-- The bits of the slots of a block add up to the width of its mantissas record. Proved in proofs/Sums.antt.
+use mathlib.Core.Path.{_≡_}
+use mathlib.Core.List.{List, _++_}
+use Prim.Native.Nat.{ℕ, _+_, _*_, _<_}
+use lib.IntN.{pos}
+use Rattle.reading.specs.Run.{Entry, accepted, run}
+use Rattle.names.specs.Names.{mantissas}
+use Rattle.cells.specs.Cells.{State, cellOf}
+use Rattle.cells.specs.Names.{NUMBLKS, SLOT-BITS}
+use Rattle.sideinfo.specs.Steps.{sumOf}
+use Rattle.rows.specs.Syntax.{meaning}
+use Rattle.annex.specs.Annex.{header, body}
+use Rattle.annex.specs.Frame.{start, bytesOf}
+use Rattle.bounds.specs.Along.{Among}
+
+-- the bits of all slots in the block j
+abbrev pub slotSum : List ℕ → ℕ → ℕ
+slotSum m j = sumOf (λ slot. cellOf m (SLOT-BITS + 8 * j + slot)) 7
+
+-- the mantissas record of the block j is among the records, and as wide as that
+pub record Adds (m : List ℕ) (es : List Entry) (j : ℕ) : Type 0 where
+  pub entry : Entry
+  pub among : Among entry es
+  pub name : entry .field .name ≡ mantissas
+  pub block : entry .field .block ≡ pos j
+  pub width : entry .field .width ≡ slotSum m j
+
+-- whatever the buffer, of every block of a body that is read to its end
+abbrev pub SlotsAddUp : Type 0
+SlotsAddUp =
+    (s : List ℕ) (h st : State) → run (meaning header start) s 0 48 .result ≡ accepted h
+    → run (meaning body h) s (run (meaning header start) s 0 48 .place) (8 * bytesOf h) .result ≡ accepted st
+    → (j : ℕ) → j < cellOf (st .cells) NUMBLKS
+    → (j < 6) × Adds (st .cells) (run (meaning header start) s 0 48 .records ++ run (meaning body h) s (run (meaning header start) s 0 48 .place) (8 * bytesOf h) .records) j
