@@ -28,7 +28,8 @@ use Rattle.answer.specs.declared.Frame.{Frame}
 use Rattle.answer.specs.declared.SlotBits.{SlotBits as Bits}
 use Rattle.bounds.specs.Along.{Among}
 use Rattle.slot_sums.specs.SlotSums.{Adds}
-use Rattle.slot_sums.proofs.Sums.{slots-add-up}
+use Rattle.bounds.proofs.Walking.{grows-append}
+use Rattle.slot_sums.proofs.Sums.{sum-same, slots-add-up}
 use Rattle.demands.specs.Calls.{Call, count, nth, Accepts}
 use Rattle.demands.specs.SlotBits.{bitsOf, MantissasOf, SlotBits}
 use Rattle.demands.proofs.Calls.{outcome, is, accepts, held}
@@ -141,10 +142,6 @@ parts s st = six (leb 6 (length s))
     six true d = first (O .result) refl d
     six false d = absurd (let z : _≡_ {A = ℕ} 0 1 = cc in let o : ⊥ = omega arith in o)
 
-among-left : (e : Entry) (es fs : List Entry) → Among e es → Among e (es ++ fs)
-among-left e (x ∷ es) fs (inl h) = inl h
-among-left e (x ∷ es) fs (inr h) = inr (among-left e es fs h)
-
 among-at : (e : Entry) (es : List Entry) → Among e es → (i : ℕ) × (getElem? (map (λ (e : Entry). e .field) es) i ≡ some (e .field))
 among-at e (x ∷ es) (inl h) = (0, ap (λ (e : Entry). some (e .field)) h)
 among-at e (x ∷ es) (inr h) = let r = among-at e es h in (suc (r .0), r .1)
@@ -154,11 +151,6 @@ unfolding tabOf
 tab-at f d i zero k h = absurd (let z : ⊥ = omega arith in z)
 tab-at f d i (suc n) zero h = ap f (let z : i ≡ i + 0 = omega arith in z)
 tab-at f d i (suc n) (suc k) h = tab-at f d (suc i) n k (omega arith) ∙ ap f (let z : suc i + k ≡ i + suc k = omega arith in z)
-
-sum-same : (f g : ℕ → ℕ) (n : ℕ) → ((i : ℕ) → i < n → f i ≡ g i) → sumOf f n ≡ sumOf g n
-unfolding sumOf
-sum-same f g zero h = refl
-sum-same f g (suc n) h = let r = sum-same f g n (λ i k. h i (omega arith)) in let z = h n (omega arith) in omega arith
 
 -- the bits that the answer holds are those of the cells
 bits-are : (m : List ℕ) (j slot : ℕ) → j < 6 → slot < 7 → getD (getD (slotBitsIn m) j (record { bits = [] }) .bits) slot 0 ≡ cellOf m (SLOT-BITS + 8 * j + slot)
@@ -190,7 +182,7 @@ slot-bits s c = record { adds-up = λ a j h. go a j h }
         let k : j < cellOf (st .cells) NUMBLKS = subst (λ n. j < n) (ap (λ (x : Frame). x .numblks) F) h in
         let D = slots-add-up s (P .head) st (P .headed) (P .bodied) j k in
         let X = D .1 in
-        let A : Among (X .entry) (outcome c .records) = subst (Among (X .entry)) (sym (ap (λ (o : Outcome State). o .records) same ∙ P .lists)) (among-left (X .entry) (run (meaning header start) s 0 48 .records ++ run (meaning body (P .head)) s (run (meaning header start) s 0 48 .place) (8 * bytesOf (P .head)) .records) (P .more) (X .among)) in
+        let A : Among (X .entry) (outcome c .records) = subst (Among (X .entry)) (sym (ap (λ (o : Outcome State). o .records) same ∙ P .lists)) (grows-append (run (meaning header start) s 0 48 .records ++ run (meaning body (P .head)) s (run (meaning header start) s 0 48 .place) (8 * bytesOf (P .head)) .records) (P .more) .keeps (X .entry) (X .among)) in
         let T = among-at (X .entry) (outcome c .records) A in
         let H = held c (T .0) (X .entry .field) (T .1) in
         found c j (T .0) (X .entry .field) (H .0) (H .1) (X .name) (X .block)

@@ -53,7 +53,7 @@ clear : Ranges → Block → Bool
 unfolding fitting outside leaves kept ending every
 clear rs b = fitting every (leaves rs) b
 
-sum-same : (f g : ℕ → ℕ) (n : ℕ) → ((i : ℕ) → i < n → f i ≡ g i) → sumOf f n ≡ sumOf g n
+pub sum-same : (f g : ℕ → ℕ) (n : ℕ) → ((i : ℕ) → i < n → f i ≡ g i) → sumOf f n ≡ sumOf g n
 unfolding sumOf
 sum-same f g zero h = refl
 sum-same f g (suc n) h = let r = sum-same f g n (λ i k. h i (omega arith)) in let z = h n (omega arith) in omega arith
@@ -64,7 +64,7 @@ adds-by x y es fs j h g a = record {
   among = g .keeps (a .entry) (a .among);
   name = a .name;
   block = a .block;
-  width = a .width ∙ sum-same _ _ 7 (λ i k. sym (h i k));
+  width = a .width ∙ sum-same _ _ _ (λ i k. sym (h i (omega arith)));
 }
 
 adds-stay : (rs : Ranges) (x y : List ℕ) (es fs : List Entry) (j : ℕ) → j < 6 → Changed (leaves ((SLOT-BITS, SLOT-BITS + 47) ∷ rs)) x y → Grows es fs → Adds x es j → Adds y fs j
