@@ -28,7 +28,7 @@ use Rattle.annex.specs.Frame.{start, tailNames, bytesOf, bsidAhead, eac3}
 use Rattle.annex.proofs.Header.{headed-good, headed-is, headed-gives, sized-is}
 use Rattle.bounds.proofs.Bounds.{both}
 use Rattle.bounds.proofs.Bounded.{pages}
-use Rattle.unmet.specs.Unmet.{BsidGood}
+use Rattle.unmet.specs.Unmet.{BsidFits, BsidsFit}
 
 -- in a tree from the place p on: of an element bsid P holds, of its place and its width; no span has that name
 module _ (P : ℕ → ℕ → Type 0) where
@@ -234,56 +234,52 @@ never-tail v l st p =
     aux : ¬ (tailNames .auxbits ≡ bsid)
     aux e = omega arith
 
--- a bsid record holds 11 to 16
-abbrev Good : Entry → Type 0
-Good e = e .field .name ≡ bsid → (11 ≤ e .field .value) × (e .field .value ≤ 16)
-
-never-good : (es : List Entry) → All (Holds Never) es → All Good es
+never-fits : (es : List Entry) → All (Holds Never) es → All BsidFits es
 unfolding Never
-never-good es h = all-map es (λ e k n. absurd (k n .1)) h
+never-fits es h = all-map es (λ e k n. absurd (k n .1)) h
 
-shown-good : (s : List ℕ) (es : List Entry) → bsidAhead .good (bitsAt s 40 5) ≡ true → All (Holds There) es → All (Valued s) es → All Good es
+shown-fits : (s : List ℕ) (es : List Entry) → bsidAhead .good (bitsAt s 40 5) ≡ true → All (Holds There) es → All (Valued s) es → All BsidFits es
 unfolding There
-shown-good s [] g h k = tt
-shown-good s (e ∷ es) g h k = (good, shown-good s es g (h .1) (k .1))
+shown-fits s [] g h k = tt
+shown-fits s (e ∷ es) g h k = (fits, shown-fits s es g (h .1) (k .1))
   where
-    good : Good e
-    good n =
+    fits : BsidFits e
+    fits n =
         let t = h .0 n in
         let v : e .field .value ≡ bitsAt s 40 5 = rw (t .1 .0, t .1 .1) at (k .0 (t .0)) in
         let b = both (leb 11 (bitsAt s 40 5)) (leb (bitsAt s 40 5) 16) g in
         rw v (leb-true 11 (bitsAt s 40 5) (b .0), leb-true (bitsAt s 40 5) 16 (b .1))
 
-good-after : {A B : Type 0} (o : Outcome A) (f : A → ℕ → Outcome B) → All Good (o .records) → ((a : A) → o .result ≡ accepted a → All Good (f a (o .place) .records)) → All Good (after o f .records)
+fits-after : {A B : Type 0} (o : Outcome A) (f : A → ℕ → Outcome B) → All BsidFits (o .records) → ((a : A) → o .result ≡ accepted a → All BsidFits (f a (o .place) .records)) → All BsidFits (after o f .records)
 unfolding after
-good-after {A} o f h k = go (o .result) refl
+fits-after {A} o f h k = go (o .result) refl
   where
-    go : (r : Result A) → o .result ≡ r → All Good (andThen r (o .place) (o .records) f .records)
-    go (accepted a) e = all-append Good (o .records) (f a (o .place) .records) h (k a e)
+    go : (r : Result A) → o .result ≡ r → All BsidFits (andThen r (o .place) (o .records) f .records)
+    go (accepted a) e = all-append BsidFits (o .records) (f a (o .place) .records) h (k a e)
     go (refused n) e = h
 
 module _ (s : List ℕ) where
-  good-finish : (l : ℕ) (a : State) (p : ℕ) → All Good (finish tailNames s l a p .records)
+  fits-finish : (l : ℕ) (a : State) (p : ℕ) → All BsidFits (finish tailNames s l a p .records)
   unfolding finish
-  good-finish l a p =
+  fits-finish l a p =
       let t = tail tailNames (bitsAt s (auxdataeAt l) 1) l a in
-      never-good (run t s p l .records) (reads-run Never t s p l (never-tail (bitsAt s (auxdataeAt l) 1) l a p))
+      never-fits (run t s p l .records) (reads-run Never t s p l (never-tail (bitsAt s (auxdataeAt l) 1) l a p))
 
-  good-sized : (h : State) (p : ℕ) → p ≡ 32 → bsidAhead .good (bitsAt s 40 5) ≡ true → All Good (sized eac3 s h p .records)
+  fits-sized : (h : State) (p : ℕ) → p ≡ 32 → bsidAhead .good (bitsAt s 40 5) ≡ true → All BsidFits (sized eac3 s h p .records)
   unfolding sized framed eac3
-  good-sized h p e g =
+  fits-sized h p e g =
       let l = 8 * bytesOf h in
       let o = run (meaning body h) s p l in
-      test (λ o. All Good (o .records)) (leb (bytesOf h) (length s))
-      (λ _. good-after o (finish tailNames s l)
-      (shown-good s (o .records) g (reads-run There (meaning body h) s p l (reads-shown body p (rw e body-shows) h)) (valued (meaning body h) s p l))
-      (λ a _. good-finish l a (o .place)))
+      test (λ o. All BsidFits (o .records)) (leb (bytesOf h) (length s))
+      (λ _. fits-after o (finish tailNames s l)
+      (shown-fits s (o .records) g (reads-run There (meaning body h) s p l (reads-shown body p (rw e body-shows) h)) (valued (meaning body h) s p l))
+      (λ a _. fits-finish l a (o .place)))
       (λ _. tt)
 
-pub bsid-good : BsidGood
+pub bsids-fit : BsidsFit
 unfolding parse eac3
-bsid-good s =
-    test (λ o. All Good (o .records)) (leb 6 (length s))
-    (λ _. good-after (headed eac3 s) (sized eac3 s) (never-good (headed eac3 s .records) (reads-run Never (headerBy eac3 (seen eac3 s)) s 0 48 (never-header (seen eac3 s))))
-    (λ h e. good-sized s h _ (ap (λ (o : Outcome State). o .place) (headed-is s h e) ∙ sized-is s .gives h (headed-gives s h e) .ends) (headed-good s h e)))
+bsids-fit s =
+    test (λ o. All BsidFits (o .records)) (leb 6 (length s))
+    (λ _. fits-after (headed eac3 s) (sized eac3 s) (never-fits (headed eac3 s .records) (reads-run Never (headerBy eac3 (seen eac3 s)) s 0 48 (never-header (seen eac3 s))))
+    (λ h e. fits-sized s h _ (ap (λ (o : Outcome State). o .place) (headed-is s h e) ∙ sized-is s .gives h (headed-gives s h e) .ends) (headed-good s h e)))
     (λ _. tt)

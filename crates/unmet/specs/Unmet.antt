@@ -26,8 +26,11 @@ use Rattle.annex.specs.Frame.{bytesOf, eac3}
 use Rattle.bounds.specs.Along.{Point, Has, Along}
 
 -- whatever the buffer, a bsid record holds 11 to 16
-abbrev pub BsidGood : Type 0
-BsidGood = (s : List ℕ) → All (λ e. e .field .name ≡ bsid → (11 ≤ e .field .value) × (e .field .value ≤ 16)) (parse eac3 s .records)
+abbrev pub BsidFits : Entry → Type 0
+BsidFits e = e .field .name ≡ bsid → (11 ≤ e .field .value) × (e .field .value ≤ 16)
+
+abbrev pub BsidsFit : Type 0
+BsidsFit = (s : List ℕ) → All BsidFits (parse eac3 s .records)
 
 -- SNR offsets were sent; and coupling leaks
 abbrev pub Offsets : List Entry → Type 0
