@@ -1,13 +1,13 @@
 -- The parts of the entry, one after another, are the definition. Assumes nothing.
 use mathlib.Core.Path.{_≡_, refl, ap, sym, _∙_}
-use mathlib.Core.Bool.{Bool, true, false, cond, not}
+use mathlib.Core.Bool.{Bool, true, false, cond, not, _&&_}
 use mathlib.Core.List.{List, []}
 use Prim.Native.Nat.{ℕ, _+_, _-_, _*_, _%_, _≤_, _<_, min}
 use native.Mathlib.Omega.{arith}
 use native.Mathlib.Nat.{add-zero}
 use lib.Dec.{leb, eqb}
 use lib.ListN.{length, getD, replicate, getD-replicate, length-replicate}
-use borrow.Author.Tests.{le-leb, lt-leb, ne-eqb}
+use borrow.Author.Tests.{le-leb, lt-leb, eq-eqb, ne-eqb}
 use Rattle.bits.specs.Bits.{bitsAt}
 use Rattle.bits.proofs.BitLaws.{bitsAt-lt}
 use Rattle.reading.specs.Tree.{Tree, done, _>>=_}
@@ -21,6 +21,7 @@ use Rattle.syntax.specs.Rooms.{Fills}
 use Rattle.syntax.specs.declared.Cursor.{Cursor}
 use Rattle.names.specs.Names.{syncword}
 use Rattle.slots.specs.Held.{Bins}
+use Rattle.slots.proofs.Tests.{both}
 use Rattle.allocation.proofs.MemoLaws.{memo-fresh}
 use Rattle.inputs.specs.Reads.{Right}
 use Rattle.cells.specs.Cells.{State, state, Addr, Sum, cellOf, putIn, stored, placeOf, partOf}
@@ -249,6 +250,13 @@ stopped-after f k place next n m c mu st e = stops (c .stopped) refl ∙ ap (λ 
         ≡ cond b (got (refused 33) (f .first) n m) (got (refused k) place (n + 1) (pushed m n f))
     keeps true = refl
     keeps false = refl
+
+-- what the entry's test of the word v and of bsid tells of bsid
+pub good-bsid : (r : Bool) (v : ℕ) (g : Bool) → r ≡ (eqb v 0x0B77 && g) → r ≡ true → g ≡ true
+good-bsid r v g e f = both (eqb v 0x0B77) g (sym e ∙ f) .1
+
+pub other-bsid : (r : Bool) (v : ℕ) (g : Bool) → r ≡ (eqb v 0x0B77 && g) → r ≡ false → v ≡ 0x0B77 → g ≡ false
+other-bsid r v g e f h = rw (eq-eqb v 0x0B77 h) at (sym e ∙ f)
 
 -- a slice that is refused by its first word, or by its bsid: the header records the word
 module _ (s : List ℕ) (m : Room) (v : ℕ) (ev : v ≡ bitsAt s 0 16) where
