@@ -1,1 +1,3 @@
+pub mod NoBits
 pub mod Sums
+pub mod Unused
