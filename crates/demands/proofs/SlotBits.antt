@@ -18,7 +18,7 @@ use Rattle.reading.specs.Frame.{TailNames, plain, auxdataeAt, ending, tail, fin
 use Rattle.reading.proofs.Rooms.{cut-same}
 use Rattle.names.specs.Names.{mantissas}
 use Rattle.tables.specs.Small.{nfchans}
-use Rattle.slots.specs.Slots.{LFE}
+use Rattle.slots.specs.Slots.{CPL, LFE}
 use Rattle.cells.specs.Cells.{State, cellOf}
 use Rattle.cells.specs.Names.{ACMOD, AHTINU, NUMBLKS, SLOT-BITS}
 use Rattle.sideinfo.specs.Steps.{sumOf}
@@ -35,6 +35,7 @@ use Rattle.slot_sums.specs.SlotSums.{slotBits}
 use Rattle.bounds.proofs.Walking.{grows-append}
 use Rattle.slot_sums.proofs.Sums.{sum-same, slots-add-up, unused-have-none, channels-by-acmod}
 use Rattle.slot_sums.proofs.Unused.{tab-first}
+use Rattle.slot_sums.proofs.Zeros.{other-blocks-have-none, none-coupled}
 use Rattle.demands.specs.Calls.{Call, count, nth, Accepts}
 use Rattle.demands.specs.SlotBits.{bitsOf, MantissasOf, NoBitsOf, SlotBits}
 use Rattle.demands.proofs.Calls.{outcome, is, accepts, held}
@@ -190,11 +191,17 @@ bits-in : (s : List ℕ) (c : Call s) (W : Whole s c) (j slot : ℕ) → j < 6 �
 bits-in s c W j slot h k = ap (λ (x : Frame). getD (getD (x .«slot_bits») j (record { bits = [] }) .bits) slot 0) (W .frame) ∙ bits-are (W .st .cells) j slot h k
 
 pub slot-bits : (s : List ℕ) (c : Call s) → SlotBits s c
-slot-bits s c = record { adds-up = λ a j h. go a j h; unused = λ a j h. none a j h }
+slot-bits s c = record { adds-up = λ a j h. go a j h; unused = λ a j h. none a j h; others = λ a j slot h k o. other a j slot h k o }
   where
     -- the block is one of the definition's
     block : (W : Whole s c) (j : ℕ) → j < c .answer .frame .numblks → j < cellOf (W .st .cells) NUMBLKS
     block W j h = subst (λ n. j < n) (ap (λ (x : Frame). x .numblks) (W .frame)) h
+
+    other : Accepts c → (j slot : ℕ) → c .answer .frame .numblks ≤ j → j < 6 → slot < 7 → bitsOf c j slot ≡ 0
+    other a j slot h k o =
+        let W = whole s c a in
+        let P = parts s (W .st) (W .read) in
+        bits-in s c W j slot k o ∙ other-blocks-have-none s (P .head) (W .st) (P .headed) (P .bodied) j slot (subst (λ n. n ≤ j) (ap (λ (x : Frame). x .numblks) (W .frame)) h) k o
 
     none : Accepts c → (j : ℕ) → j < c .answer .frame .numblks → NoBitsOf c j
     none a j h =
@@ -211,6 +218,7 @@ slot-bits s c = record { adds-up = λ a j h. go a j h; unused = λ a j h. none a
               let z = subst (λ n. getD nfchans n 0 ≤ ch) e i in
               bits-in s c W j ch few (omega arith) ∙ N .channels ch (omega arith) o;
           lfe = λ e. bits-in s c W j LFE few (omega arith) ∙ N .lfe (sym (ap (λ (x : Frame). x .lfeon) (W .frame)) ∙ e);
+          coupling = λ e. bits-in s c W j CPL few (omega arith) ∙ N .coupling (none-coupled s (P .head) (W .st) (P .headed) (P .bodied) (sym (ap (λ (x : Frame). x .«cpl_blocks») (W .frame)) ∙ e) j k);
           hybrid = λ slot i o l e t.
               let f : getD (c .answer .frame .«aht_slots») slot false ≡ flagOf m (AHTINU + slot) = ap (λ (x : Frame). getD (x .«aht_slots») slot false) (W .frame) ∙ tab-first (λ n. flagOf m (AHTINU + n)) false 7 slot o in
               let b = bits-in s c W i slot (omega arith) o in

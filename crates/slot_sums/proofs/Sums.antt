@@ -1,48 +1,48 @@
 -- The bits of the slots of a block add up to the width of its mantissas record, and a slot that is not in use or was read before has none: kept block by block.
 -- Assumes nothing.
 use mathlib.Core.Path.{_≡_, refl, ap, sym, _∙_, subst}
-use mathlib.Core.Bool.{Bool, true, _&&_}
-use mathlib.Core.List.{List, [], _∷_, _++_}
+use mathlib.Core.Bool.{true, _&&_}
+use mathlib.Core.List.{List, [], _∷_}
 use mathlib.Core.Logic.{_⊎_, inl, inr}
 use Prim.Native.Nat.{ℕ, zero, suc, _+_, _-_, _*_, _%_, _≤_, _<_}
 use native.Mathlib.Omega.{arith}
-use native.Mathlib.Decide.{ℕ-discrete}
+use native.Mathlib.Decide.{ℕ-discrete, decLt}
 use lib.IntN.{pos}
 use lib.Dec.{eqb}
 use borrow.Author.Tests.{ne-eqb}
 use lib.ListN.{length, getD, drop, length-drop}
-use Rattle.reading.specs.Run.{Entry, region, accepted, run}
+use Rattle.reading.specs.Run.{Entry, region}
 use Rattle.names.specs.Names.{mantissas as mantissas-of-block}
 use Rattle.tables.specs.Small.{nfchans}
 use Rattle.slots.specs.Slots.{CPL, LFE}
-use Rattle.cells.specs.Cells.{State, cellOf, putIn, putsIn, stored, storedAll, placeOf, heldOf, signed, partOf}
-use Rattle.cells.specs.Names.{ACMOD, AHT-READ, AHT-TAGS, AHTINU, BLK, BLOCK, CHINCPL, CPLINU, CPLINUS, FRMSIZ, LFEON, NFCHANS, NUMBLKS, SLOT-BITS, TAGS}
+use Rattle.cells.specs.Cells.{State, state, cellOf, putIn, putsIn, stored, storedAll, placeOf, heldOf, signed, partOf}
+use Rattle.cells.specs.Names.{ACMOD, AHT-READ, AHT-TAGS, AHTINU, BLK, BLOCK, CHINCPL, CPLINU, CPLINUS, LFEON, NFCHANS, NUMBLKS, SLOT-BITS, TAGS}
 use Rattle.sideinfo.specs.Steps.{sumOf, eachOf}
 use Rattle.sideinfo.specs.Frames.{nfchansBy}
 use Rattle.sideinfo.specs.Blocks.{flagOf, channelsOf, readOf, slotBitsOf, ahtReadBy}
 use Rattle.derivations.specs.Derivations.{AhtRead, Nfchans, derived}
-use Rattle.rows.specs.Syntax.{Item, Block, _⧺_, mantissas, cell, at, none, meaning}
+use Rattle.rows.specs.Syntax.{Block, _⧺_, mantissas, cell, at, none}
 use Rattle.annex.specs.Bsi.{mixing-metadata, mixdef3, informational-metadata, bsi}
 use Rattle.annex.specs.Audfrm.{flags, coupling, strategies, hybrid, offsets, audfrm}
 use Rattle.annex.specs.Audblk.{dynamics, spx-strategy, spx-coordinates, cpl-strategy, cpl-coordinates, rematrixing, bandwidth, exponents-of-block, parameters, deltas, skip-field, quantized, audblk}
-use Rattle.annex.specs.Annex.{header, audblks, body}
-use Rattle.annex.specs.Frame.{start, bytesOf}
-use Rattle.bounds.specs.Along.{Point, Among}
+use Rattle.annex.specs.Annex.{audblks, body}
+use Rattle.annex.specs.Frame.{bytesOf}
+use Rattle.bounds.specs.Along.{Among}
 use Rattle.bounds.specs.Bounds.{bounds, mostIn, most, tagsMost, Within}
 use Rattle.outcomes.specs.Outcomes.{farthest}
 use Rattle.cells.proofs.Cells.{put-sized}
 use Rattle.bounds.proofs.Cells.{cell-zero, cell-at, cell-beside}
-use Rattle.bounds.proofs.Bounds.{both, frmsiz-most, most-word, numblks-most, may, Changed, puts, mostOver, most-over}
-use Rattle.bounds.proofs.Bounded.{fitting, header-within}
+use Rattle.bounds.proofs.Bounds.{most-word, numblks-most, may, Changed, puts, mostOver, most-over}
+use Rattle.bounds.proofs.Bounded.{header-within}
 use Rattle.bounds.proofs.Derived.{nfchans-most, fitsDerived, derived-changes}
-use Rattle.bounds.proofs.Fits.{told-changes, fits-block}
-use Rattle.bounds.proofs.Reaches.{run-reaches}
+use Rattle.bounds.proofs.Fits.{told-changes}
 use Rattle.bounds.proofs.Spent.{total}
 use Rattle.bounds.proofs.Walking.{Grows, grows-refl, Walks, Walked, walks-end, walks-next, walks-map, walks-append, walked-mantissas, walked-derive, walked-put, walked-each}
-use Rattle.unmet.proofs.Leaves.{Ranges, outside, leaves, leaves-same, firstItems, afterItems, first-after, place-cell, place-at, held-cell}
+use Rattle.unmet.proofs.Leaves.{Ranges, leaves, leaves-same, firstItems, afterItems, first-after, place-cell, place-at, held-cell}
 use Rattle.slot_sums.specs.SlotSums.{slotBits, Adds, SlotsAddUp}
-use Rattle.slot_sums.specs.NoBits.{bitsTold, NoBits, UnusedHaveNone}
+use Rattle.slot_sums.specs.NoBits.{bitsTold, NoBits, AtBodyEnd, UnusedHaveNone}
 use Rattle.slot_sums.proofs.NoBits.{unasked-take-none}
+use Rattle.slot_sums.proofs.Sections.{clear, allClear, Any, joined, After, Stays, walk-by, walk-on, pass, AfterBody, body-ends}
 use Rattle.slot_sums.proofs.Unused.{Unused, unused-told, Alike, unused-alike, marks, reads-each, allRead, all-keep, taken-marked, Settled, no-bits-stay, Marked, marked-stay}
 
 -- what the frame says of its blocks: numblks, acmod, nfchans and lfeon, cplinu of each block, ahtinu of each slot
@@ -65,20 +65,12 @@ keptCoupled rs = kept ((CPLINU, CPLINU) ∷ rs)
 abbrev keptChannels : Ranges
 keptChannels = keptCoupled ((CHINCPL, CHINCPL + 4) ∷ [])
 
-every : Item → Bool
-every i = true
-
--- a section leaves such cells
-clear : Ranges → Block → Bool
-unfolding fitting outside leaves every
-clear rs b = fitting every (leaves rs) b
-
 pub sum-same : (f g : ℕ → ℕ) (n : ℕ) → ((i : ℕ) → i < n → f i ≡ g i) → sumOf f n ≡ sumOf g n
 unfolding sumOf
 sum-same f g zero h = refl
 sum-same f g (suc n) h = let r = sum-same f g n (λ i k. h i (omega arith)) in let z = h n (omega arith) in omega arith
 
-adds-by : (x y : List ℕ) (es fs : List Entry) (j : ℕ) → ((i : ℕ) → i < 7 → cellOf y (SLOT-BITS + 8 * j + i) ≡ cellOf x (SLOT-BITS + 8 * j + i)) → Grows es fs → Adds x es j → Adds y fs j
+adds-by : (x y : List ℕ) (es fs : List Entry) (j : ℕ) → ((i : ℕ) → i < 7 → slotBits y j i ≡ slotBits x j i) → Grows es fs → Adds x es j → Adds y fs j
 adds-by x y es fs j h g a = record {
   entry = a .entry;
   among = g .keeps (a .entry) (a .among);
@@ -267,11 +259,19 @@ module _ (m : List ℕ) (w : Within m) (j : ℕ) (blk : cellOf m BLK ≡ j) (few
       ∙ row-at tagged j (tagged-changes .within .sized) tagged-blk few tagged-word 7 i (omega arith) h
       ∙ tagged-same (TAGS + 1 + i) (omega arith) (λ z. omega arith)
 
-  row-stays : (k i : ℕ) → k < j → i < 7 → cellOf (ahtReadBy m) (SLOT-BITS + 8 * k + i) ≡ cellOf m (SLOT-BITS + 8 * k + i)
-  row-stays k i h b =
+  pub row-stays : (k i : ℕ) → k < 6 → ¬ (k ≡ j) → i < 7 → slotBits (ahtReadBy m) k i ≡ slotBits m k i
+  row-stays k i h o b =
       read-other (SLOT-BITS + 8 * k + i) (omega arith) (omega arith)
-      ∙ row-beside tagged j (tagged-changes .within .sized) tagged-blk few 7 (SLOT-BITS + 8 * k + i) (omega arith) (omega arith) (inl (omega arith))
+      ∙ row-beside tagged j (tagged-changes .within .sized) tagged-blk few 7 (SLOT-BITS + 8 * k + i) (omega arith) (omega arith) (away (decLt k j))
       ∙ tagged-same (SLOT-BITS + 8 * k + i) (omega arith) (λ z. omega arith)
+    where
+      away : Dec (k < j) → (SLOT-BITS + 8 * k + i < SLOT-BITS + 8 * j) ⊎ (SLOT-BITS + 8 * j + 7 ≤ SLOT-BITS + 8 * k + i)
+      away (yes z) = inl (omega arith)
+      away (no z) = inr (let y : j < k = omega arith in omega arith)
+
+pub read-is : (st : State) → derived AhtRead st .st .cells ≡ ahtReadBy (st .cells)
+unfolding derived
+read-is st = refl
 
 signed-block : (n j : ℕ) → n ≡ suc j → j < 6 → signed 128 n ≡ pos j
 signed-block n j e h = let a : n % 128 ≡ suc j = omega arith in rw (a, ne-eqb (suc j) 0 (λ z. omega arith)) (ap pos (let z : suc j - 1 ≡ j = omega arith in z))
@@ -311,6 +311,12 @@ coupled-stays rs n j a b q r es fs g h f c = record {
       ∙ sym (settled-by _ (a .cells) (b .cells) g .cplinus j (c .inside .few));
 }
 
+in-block : (n j : ℕ) → Stays (kept []) (InBlock n j)
+in-block n j = record { within = λ a q es c. (c .within, c .far); stays = λ a b q r es fs g h f c. block-stays [] n j a b q r es fs g h f c }
+
+in-coupled : (n j : ℕ) → Stays (keptCoupled []) (InCoupled n j)
+in-coupled n j = record { within = λ a q es c. (c .inside .within, c .inside .far); stays = λ a b q r es fs g h f c. coupled-stays [] n j a b q r es fs g h f c }
+
 -- the cells that say which slots have no bits
 alike-by : (x y : List ℕ) → Changed (leaves keptChannels) x y → Alike x y
 alike-by x y g = record {
@@ -325,62 +331,30 @@ alike-by x y g = record {
     s : Settled x y
     s = settled-by _ x y g
 
+-- the use of coupling in the block, as it is put
 cplinus-most : mostOver CPLINUS 5 ≡ 1
 unfolding mostOver most mostIn bounds
 cplinus-most = refl
 
+abbrev pub cplinuPut : List ℕ → List ℕ
+cplinuPut m = putIn m (placeOf (cell CPLINU) m) (0 + 1 * heldOf (at CPLINUS BLK) m)
+
+pub cplinu-put : (rs : Ranges) → may (leaves rs) CPLINU 0 0 1 ≡ true → (m : List ℕ) (j : ℕ) → Within m → j < 6 → cellOf m BLK ≡ j → Changed (leaves rs) m (cplinuPut m) × (cellOf (cplinuPut m) CPLINU ≡ cellOf m (CPLINUS + j))
+cplinu-put rs h m j w few blk =
+    let v : ℕ = 0 + 1 * heldOf (at CPLINUS BLK) m in
+    let k : placeOf (cell CPLINU) m ≡ CPLINU = place-cell CPLINU m in
+    let b : heldOf (at CPLINUS BLK) m ≡ cellOf m (CPLINUS + j) = ap (cellOf m) (place-at CPLINUS BLK m ∙ ap (λ n. CPLINUS + n) blk) in
+    let low : cellOf m (CPLINUS + j) ≤ 1 = omega (arith, w .below (CPLINUS + j), most-over CPLINUS 5 (CPLINUS + j) (omega arith) (omega arith), cplinus-most) in (
+      puts (leaves rs) m (placeOf (cell CPLINU) m) v CPLINU 0 0 1 w h (omega arith) (omega arith) (omega arith) (omega arith),
+      subst (λ n. cellOf (putIn m n v) CPLINU ≡ cellOf m (CPLINUS + j)) (sym k) (cell-at m CPLINU v (w .sized) (omega arith) (omega arith) ∙ (let z : v % 65536 ≡ cellOf m (CPLINUS + j) = omega arith in z)),
+    )
+
+-- every block of the frame
+record All (a : State) (q : ℕ) (fs : List Entry) : Type 0 where
+  channels : ByAcmod (a .cells)
+  rows : (j : ℕ) → j < cellOf (a .cells) NUMBLKS → (j < 6) × Row (a .cells) fs j
+
 module _ (s : List ℕ) (l : ℕ) (short : l ≤ farthest) where
-  Any : Item → Point
-  Any i st p es = Unit {0}
-
-  -- what holds after items that leave the cells
-  record After (rs : Ranges) (st : State) (es : List Entry) (a : State) (q : ℕ) (fs : List Entry) : Type 0 where
-    changed : Changed (leaves rs) (st .cells) (a .cells)
-    grows : Grows es fs
-    far : q ≤ farthest
-
-  walk-by : (rs : Ranges) (b : Block) → clear rs b ≡ true → (st : State) (p : ℕ) (es : List Entry) → Within (st .cells) → p ≤ farthest → Walks s l Any b st p es (After rs st es)
-  unfolding clear Any
-  walk-by rs b h st p es w i =
-      let z = fits-block every s l Any (λ _ _ _ _ _ _. tt) (leaves rs) b [] h st p es w tt in
-      record {
-        along = z .along;
-        ends = λ a e. record { changed = z .ends a e .changed; grows = z .ends a e .grows; far = let r = run-reaches (meaning b st) s p l .reaches a e in omega arith };
-      }
-
-  -- sections that leave them, one after another
-  joined : List Block → Block → Block
-  joined [] c = c
-  joined (b ∷ bs) c = b ⧺ joined bs c
-
-  allClear : Ranges → List Block → Bool
-  allClear rs [] = true
-  allClear rs (b ∷ bs) = clear rs b && allClear rs bs
-
-  -- what stays where these cells do
-  record Stays (rs : Ranges) (P : Point) : Type 0 where
-    within : (a : State) (q : ℕ) (es : List Entry) → P a q es → Within (a .cells) × (q ≤ farthest)
-    stays : (a b : State) (q r : ℕ) (es fs : List Entry) → Changed (leaves rs) (a .cells) (b .cells) → Grows es fs → r ≤ farthest → P a q es → P b r fs
-
-  in-block : (n j : ℕ) → Stays (kept []) (InBlock n j)
-  in-block n j = record { within = λ a q es c. (c .within, c .far); stays = λ a b q r es fs g h f c. block-stays [] n j a b q r es fs g h f c }
-
-  in-coupled : (n j : ℕ) → Stays (keptCoupled []) (InCoupled n j)
-  in-coupled n j = record { within = λ a q es c. (c .inside .within, c .inside .far); stays = λ a b q r es fs g h f c. coupled-stays [] n j a b q r es fs g h f c }
-
-  walk-on : (rs : Ranges) (P : Point) → Stays rs P → (b : Block) → clear rs b ≡ true → (st : State) (p : ℕ) (es : List Entry) → P st p es → Walks s l Any b st p es P
-  walk-on rs P t b h st p es g =
-      let w = t .within st p es g in
-      walks-map s l Any (λ a q fs d. t .stays st a p q es fs (d .changed) (d .grows) (d .far) g) (walk-by rs b h st p es (w .0) (w .1))
-
-  pass : (rs : Ranges) (P : Point) → Stays rs P → (bs : List Block) (c : Block) → allClear rs bs ≡ true → (st : State) (p : ℕ) (es : List Entry) → P st p es → {R : Point}
-      → ((a : State) (q : ℕ) (fs : List Entry) → P a q fs → Walks s l Any c a q fs R) → Walks s l Any (joined bs c) st p es R
-  unfolding joined allClear
-  pass rs P t [] c h st p es g k = k st p es g
-  pass rs P t (b ∷ bs) c h st p es g k =
-      let u = both (clear rs b) (allClear rs bs) h in
-      walks-append s l Any b (joined bs c) st p es {M = P} (walk-on rs P t b (u .0) st p es g) (λ a q fs i. pass rs P t bs c (u .1) a q fs i k)
-
   -- before the use of coupling is known, and then
   sections : List Block
   sections = spx-strategy ∷ spx-coordinates ∷ []
@@ -429,7 +403,7 @@ module _ (s : List ℕ) (l : ℕ) (short : l ≤ farthest) where
         rows = λ i h. row-stay [] m (putIn m (placeOf (cell BLOCK) m) v) es es i (omega arith) g (grows-refl es) (c .rows i h);
         far = c .far;
       }))
-      (λ a q fs d. walk-on (kept []) (InBlock n j) (in-block n j) _ refl a q fs d)
+      (λ a q fs d. walk-on s l short (kept []) (InBlock n j) (in-block n j) _ refl a q fs d)
 
   -- its use of coupling is put
   may-cplinu : may (leaves (kept [])) CPLINU 0 0 1 ≡ true
@@ -442,18 +416,12 @@ module _ (s : List ℕ) (l : ℕ) (short : l ≤ farthest) where
       walks-next s l Any _ _ st p es {M = InCoupled n j} tt
       (walked-put s l Any _ _ st p es
       (let m = st .cells in
-      let few = c .few in
-      let k : placeOf (cell CPLINU) m ≡ CPLINU = place-cell CPLINU m in
-      let v : ℕ = 0 + 1 * heldOf (at CPLINUS BLK) m in
-      let b : heldOf (at CPLINUS BLK) m ≡ cellOf m (CPLINUS + j) = ap (cellOf m) (place-at CPLINUS BLK m ∙ ap (λ n. CPLINUS + n) (c .blk)) in
-      let low : cellOf m (CPLINUS + j) ≤ 1 = omega (arith, c .within .below (CPLINUS + j), most-over CPLINUS 5 (CPLINUS + j) (omega arith) (omega arith), cplinus-most) in
-      let g : Changed (leaves (kept [])) m (putIn m (placeOf (cell CPLINU) m) v) = puts (leaves (kept [])) m (placeOf (cell CPLINU) m) v CPLINU 0 0 1 (c .within) may-cplinu (omega arith) (omega arith) (omega arith) (omega arith) in
+      let g = cplinu-put (kept []) may-cplinu m j (c .within) (c .few) (c .blk) in
       record {
-        inside = block-stays [] n j st (stored st (placeOf (cell CPLINU) m) v) p p es es g (grows-refl es) (c .far) c;
-        cplinu = subst (λ n. cellOf (putIn m n v) CPLINU ≡ cellOf m (CPLINUS + j)) (sym k) (cell-at m CPLINU v (c .within .sized) (omega arith) (omega arith) ∙ (let z : v % 65536 ≡ cellOf m (CPLINUS + j) = omega arith in z))
-            ∙ sym (settled-by (rowsRead ((BLOCK, BLK) ∷ [])) m _ g .cplinus j few);
+        inside = block-stays [] n j st (state (cplinuPut m) (st .bins)) p p es es (g .0) (grows-refl es) (c .far) c;
+        cplinu = g .1 ∙ sym (settled-by (rowsRead ((BLOCK, BLK) ∷ [])) m (cplinuPut m) (g .0) .cplinus j (c .few));
       }))
-      (λ a q fs d. walk-on (keptCoupled []) (InCoupled n j) (in-coupled n j) _ refl a q fs d)
+      (λ a q fs d. walk-on s l short (keptCoupled []) (InCoupled n j) (in-coupled n j) _ refl a q fs d)
 
   -- the mantissas were read, and the cells hold what their walk told
   record Told (n j : ℕ) (a : State) (q : ℕ) (es : List Entry) : Type 0 where
@@ -503,10 +471,6 @@ module _ (s : List ℕ) (l : ℕ) (short : l ≤ farthest) where
   unfolding clear
   pass-read = refl
 
-  read-is : (st : State) → derived AhtRead st .st .cells ≡ ahtReadBy (st .cells)
-  unfolding derived
-  read-is st = refl
-
   after-read : (n j : ℕ) (st : State) (p : ℕ) (es : List Entry) → Told n j st p es → Before n (suc j) (derived AhtRead st .st) p es
   after-read n j st p es t =
       let c = t .inside .inside in
@@ -529,7 +493,7 @@ module _ (s : List ℕ) (l : ℕ) (short : l ≤ farthest) where
       told slot k = row-told m (I .within) j (I .blk) (I .few) slot k
 
       stays : (i slot : ℕ) → i < j → slot < 7 → slotBits (ahtReadBy m) i slot ≡ slotBits m i slot
-      stays i slot h k = row-stays m (I .within) j (I .blk) (I .few) i slot h k
+      stays i slot h k = row-stays m (I .within) j (I .blk) (I .few) i slot (let z = I .few in omega arith) (λ z. omega arith) k
 
       this : Settled m (ahtReadBy m) → NoBits (ahtReadBy m) j
       this g = record {
@@ -570,7 +534,7 @@ module _ (s : List ℕ) (l : ℕ) (short : l ≤ farthest) where
   quantized-walk n j st p es c =
       subst (λ b. Walks s l Any b st p es (Before n (suc j))) (first-after 2 quantized)
       (walks-append s l Any (firstItems 2 quantized) (afterItems 2 quantized) st p es {M = InCoupled n j}
-      (walk-on (keptCoupled []) (InCoupled n j) (in-coupled n j) (firstItems 2 quantized) refl st p es c)
+      (walk-on s l short (keptCoupled []) (InCoupled n j) (in-coupled n j) (firstItems 2 quantized) refl st p es c)
       (λ a q fs d. walks-next s l Any _ _ a q fs {M = Told n j} tt (mantissas-walk n j a q fs d)
       (λ b r gs t. walks-next s l Any _ _ b r gs {M = Before n (suc j)} tt (walked-derive s l Any AhtRead b r gs (λ _. after-read n j b r gs t))
       (λ e u hs f. walks-end s l Any e u hs f))))
@@ -579,9 +543,9 @@ module _ (s : List ℕ) (l : ℕ) (short : l ≤ farthest) where
   unfolding audblk joined sections sectionsCoupled
   block-walk n j st p es c few blk =
       walks-append s l Any dynamics (joined sections (cpl-strategy ⧺ joined sectionsCoupled quantized)) st p es (dynamics-walk n j st p es c few blk)
-      (λ a q fs d. pass (kept []) (InBlock n j) (in-block n j) sections _ sections-clear a q fs d
+      (λ a q fs d. pass s l short (kept []) (InBlock n j) (in-block n j) sections _ sections-clear a q fs d
       (λ b r gs e. walks-append s l Any cpl-strategy (joined sectionsCoupled quantized) b r gs (coupling-walk n j b r gs e)
-      (λ x u hs i. pass (keptCoupled []) (InCoupled n j) (in-coupled n j) sectionsCoupled quantized coupled-clear x u hs i (λ y v is o. quantized-walk n j y v is o))))
+      (λ x u hs i. pass s l short (keptCoupled []) (InCoupled n j) (in-coupled n j) sectionsCoupled quantized coupled-clear x u hs i (λ y v is o. quantized-walk n j y v is o))))
 
   may-blk : may (leaves (ending [])) BLK 0 0 5 ≡ true
   unfolding clear
@@ -602,11 +566,6 @@ module _ (s : List ℕ) (l : ℕ) (short : l ≤ farthest) where
       (omega arith)
       (cell-at m BLK j (c .within .sized) (omega arith) (omega arith) ∙ (let z : j % 65536 ≡ j = omega arith in z))
 
-  -- every block of the frame
-  record All (a : State) (q : ℕ) (fs : List Entry) : Type 0 where
-    channels : ByAcmod (a .cells)
-    rows : (j : ℕ) → j < cellOf (a .cells) NUMBLKS → (j < 6) × Row (a .cells) fs j
-
   blocks-walk : (st : State) (p : ℕ) (es : List Entry) → Within (st .cells) → ByAcmod (st .cells) → p ≤ farthest → Walks s l Any audblks st p es All
   unfolding audblks clear Any
   blocks-walk st p es w h f =
@@ -625,7 +584,7 @@ module _ (s : List ℕ) (l : ℕ) (short : l ≤ farthest) where
             let t : cellOf (b .cells) NUMBLKS ≡ n = blocks-stay (rowsRead []) (a .cells) (b .cells) (d .changed) ∙ c .blocks in
             (omega arith, row-stay [] (a .cells) (b .cells) fs gs j (omega arith) (d .changed) (d .grows) (c .rows j (omega arith)));
       })
-      (walk-by (ending []) _ refl a q fs (c .within) (c .far)))
+      (walk-by s l short (ending []) _ refl a q fs (c .within) (c .far)))
 
   -- acmod and its channels, which stay through the rest of bsi and through audfrm
   abbrev acmods : Ranges
@@ -658,10 +617,10 @@ module _ (s : List ℕ) (l : ℕ) (short : l ≤ farthest) where
   unfolding clear bsi mixing-metadata mixdef3 informational-metadata _⧺_ firstItems afterItems Any
   bsi-walk st p es w f =
       subst (λ b. Walks s l Any b st p es Channelled) (first-after 5 bsi)
-      (walks-append s l Any (firstItems 5 bsi) (afterItems 5 bsi) st p es {M = After [] st es} (walk-by [] (firstItems 5 bsi) refl st p es w f)
+      (walks-append s l Any (firstItems 5 bsi) (afterItems 5 bsi) st p es {M = After [] st es} (walk-by s l short [] (firstItems 5 bsi) refl st p es w f)
       (λ a q fs c. walks-next s l Any _ _ a q fs {M = Channelled} tt
       (walked-derive s l Any Nfchans a q fs (λ _. record { within = derived-changes (leaves []) Nfchans a (c .changed .within) pass-channels .within; channels = channels-are a (c .changed .within); far = c .far }))
-      (λ b r gs d. walk-on acmods Channelled in-channelled _ refl b r gs d)))
+      (λ b r gs d. walk-on s l short acmods Channelled in-channelled _ refl b r gs d)))
 
   audfrm-clear : clear acmods audfrm ≡ true
   unfolding clear audfrm flags coupling strategies hybrid offsets _⧺_
@@ -671,29 +630,18 @@ module _ (s : List ℕ) (l : ℕ) (short : l ≤ farthest) where
   unfolding body
   body-walk st p es w f =
       walks-append s l Any bsi _ st p es (bsi-walk st p es w f)
-      (λ a q fs c. walks-append s l Any audfrm _ a q fs (walk-on acmods Channelled in-channelled audfrm audfrm-clear a q fs c)
+      (λ a q fs c. walks-append s l Any audfrm _ a q fs (walk-on s l short acmods Channelled in-channelled audfrm audfrm-clear a q fs c)
       (λ b r gs d. blocks-walk b r gs (d .within) (d .channels) (d .far)))
 
--- whatever the buffer, of a body that is read to its end
-body-ends : (s : List ℕ) (h st : State) → run (meaning header start) s 0 48 .result ≡ accepted h
-    → run (meaning body h) s (run (meaning header start) s 0 48 .place) (8 * bytesOf h) .result ≡ accepted st
-    → (short : 8 * bytesOf h ≤ farthest) → All s (8 * bytesOf h) short st (run (meaning body h) s (run (meaning header start) s 0 48 .place) (8 * bytesOf h) .place) (run (meaning header start) s 0 48 .records ++ run (meaning body h) s (run (meaning header start) s 0 48 .place) (8 * bytesOf h) .records)
-body-ends s h st e d z =
-    let w = header-within s h e in
-    let r = run-reaches (meaning header start) s 0 48 .reaches h e in
-    let f : run (meaning header start) s 0 48 .place ≤ farthest = omega arith in
-    body-walk s (8 * bytesOf h) z h (run (meaning header start) s 0 48 .place) (run (meaning header start) s 0 48 .records) w f .ends st d
+-- whatever the buffer, of every block of a body that is read to its end
+ends : AfterBody All
+ends = body-ends All (λ s h e short p es f. body-walk s (8 * bytesOf h) short h p es (header-within s h e) f)
 
-short-enough : (s : List ℕ) (h : State) → run (meaning header start) s 0 48 .result ≡ accepted h → 8 * bytesOf h ≤ farthest
-short-enough s h e = omega (arith, header-within s h e .below FRMSIZ, frmsiz-most)
-
--- of every block
 pub slots-add-up : SlotsAddUp
-slots-add-up s h st e d j k = let r = body-ends s h st e d (short-enough s h e) .rows j k in (r .0, r .1 .adds)
+slots-add-up s h st e d j k = let r = ends s h st e d .rows j k in (r .0, r .1 .adds)
 
 pub unused-have-none : UnusedHaveNone
-unused-have-none s h st e d j k = body-ends s h st e d (short-enough s h e) .rows j k .1 .empty
+unused-have-none s h st e d j k = ends s h st e d .rows j k .1 .empty
 
-pub channels-by-acmod : (s : List ℕ) (h st : State) → run (meaning header start) s 0 48 .result ≡ accepted h
-    → run (meaning body h) s (run (meaning header start) s 0 48 .place) (8 * bytesOf h) .result ≡ accepted st → cellOf (st .cells) NFCHANS ≡ getD nfchans (cellOf (st .cells) ACMOD) 0
-channels-by-acmod s h st e d = body-ends s h st e d (short-enough s h e) .channels
+pub channels-by-acmod : AtBodyEnd (λ m. cellOf m NFCHANS ≡ getD nfchans (cellOf m ACMOD) 0)
+channels-by-acmod s h st e d = ends s h st e d .channels

@@ -1,5 +1,5 @@
 -- The slots that have no bits: those that a block has not, and those of the adaptive hybrid transform that were read before, since one reading serves all blocks
--- of the frame (A/52 E2.2.4, TS 102 366 E.1.2.4). Proved in proofs/NoBits.antt, and of a frame in proofs/Sums.antt.
+-- of the frame (A/52 E2.2.4, TS 102 366 E.1.2.4). Proved in proofs/NoBits.antt, and of a frame in proofs/Sums.antt and proofs/Zeros.antt.
 use mathlib.Core.Path.{_≡_}
 use mathlib.Core.Bool.{Bool, true, false, _&&_}
 use mathlib.Core.List.{List}
@@ -43,9 +43,15 @@ pub record NoBits (m : List ℕ) (j : ℕ) : Type 0 where
   pub coupling : flagOf m (CPLINUS + j) ≡ false → slotBits m j CPL ≡ 0
   pub hybrid : (slot i : ℕ) → slot < 7 → i < j → flagOf m (AHTINU + slot) ≡ true → 0 < slotBits m i slot → slotBits m j slot ≡ 0
 
--- whatever the buffer, of every block of a body that is read to its end
-abbrev pub UnusedHaveNone : Type 0
-UnusedHaveNone =
+-- the cells of a body that is read to its end, whatever the buffer
+abbrev pub AtBodyEnd : (List ℕ → Type 0) → Type 0
+AtBodyEnd P =
     (s : List ℕ) (h st : State) → run (meaning header start) s 0 48 .result ≡ accepted h
-    → run (meaning body h) s (run (meaning header start) s 0 48 .place) (8 * bytesOf h) .result ≡ accepted st
-    → (j : ℕ) → j < cellOf (st .cells) NUMBLKS → NoBits (st .cells) j
+    → run (meaning body h) s (run (meaning header start) s 0 48 .place) (8 * bytesOf h) .result ≡ accepted st → P (st .cells)
+
+-- of every block of the frame; and of a block that the frame has not, every slot
+abbrev pub UnusedHaveNone : Type 0
+UnusedHaveNone = AtBodyEnd (λ m. (j : ℕ) → j < cellOf m NUMBLKS → NoBits m j)
+
+abbrev pub OtherBlocksHaveNone : Type 0
+OtherBlocksHaveNone = AtBodyEnd (λ m. (j slot : ℕ) → cellOf m NUMBLKS ≤ j → j < 6 → slot < 7 → slotBits m j slot ≡ 0)
