@@ -251,7 +251,14 @@ stopped-after f k place next n m c mu st e = stops (c .stopped) refl ∙ ap (λ 
     keeps true = refl
     keeps false = refl
 
--- what the entry's test of the word v and of bsid tells of bsid
+-- the entry's test of the word w and of bsid, with 11 passed and not passed
+pub high-bsid : (w v b : ℕ) → v ≡ b → w ≡ 0x0B77 → 11 ≤ v → leb v 16 ≡ (eqb w 0x0B77 && (leb 11 b && leb b 16))
+high-bsid w v b e h k = rw (eq-eqb w 0x0B77 h, ← e, le-leb 11 v k) refl
+
+pub low-bsid : (w v b : ℕ) → v ≡ b → w ≡ 0x0B77 → v < 11 → leb 11 v ≡ (eqb w 0x0B77 && (leb 11 b && leb b 16))
+low-bsid w v b e h k = rw (eq-eqb w 0x0B77 h, ← e, lt-leb 11 v k) refl
+
+-- what it tells of bsid
 pub good-bsid : (r : Bool) (v : ℕ) (g : Bool) → r ≡ (eqb v 0x0B77 && g) → r ≡ true → g ≡ true
 good-bsid r v g e f = both (eqb v 0x0B77) g (sym e ∙ f) .1
 
