@@ -75,7 +75,7 @@ fn stopped(cur: Cursor, number: u8, at: BitPlace) -> Cursor
 // Whether a slice begins like an E-AC-3 frame: with the sync word, and with a bsid of 11 to 16, which is looked at ahead.
 fn begins(src: &[u8], word: u32) -> bool
     requires { ⌜ 6 ≤ length (now src) ⌝ }
-    ensures { λ r. ⌜ r ≡ (eqb word 2935 && bsidAhead .good (bitsAt (now (src .entry)) 40 5)) ⌝ }
+    ensures { λ r. ⌜ r ≡ (eqb word 0x0B77 && bsidAhead .good (bitsAt (now (src .entry)) 40 5)) ⌝ }
 {
     let bsid = bits_at(src, BitPlace(40), 5);
     word == SYNC && (11 <= bsid && bsid <= 16)
