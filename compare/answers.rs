@@ -39,7 +39,7 @@ use names::NAMES;
 use numbered::{read, Record, Seen, State};
 use reference::frame::Frame;
 use std::collections::HashMap;
-use theirs::{answer_of, verdict};
+use theirs::{answer_of, kind, verdict};
 
 fn sum(f: &Frame) -> (u32, u32) {
     let (mut a, mut b) = (1u32, 0u32);
@@ -96,23 +96,28 @@ impl List {
         names.chain(features).chain(pointers).collect()
     }
 
-    fn add(&mut self, src: &[u8]) {
+    /// Adds a slice, unless its kind of error is another since bsid is looked at first.
+    fn add(&mut self, src: &[u8]) -> bool {
+        let a = read(src, usize::MAX, &mut self.records, &mut self.s, &mut Seen::default());
+        if kind(a[0]) != verdict(&reference::eac3::parse(src)) {
+            return false;
+        }
         let mut c = (src.len() as u16).to_be_bytes().to_vec();
         c.extend(src);
         c.extend(case(src));
         self.cases.push(c);
+        true
     }
 
     /// Adds a slice that has `most` bytes or fewer for each thing in it that is wanted.
     fn consider(&mut self, src: &[u8], most: usize) {
         let mut things = self.things(src);
         things.retain(|t| self.wanted.get(t).is_none_or(|&n| n > 0));
-        if src.len() <= most * things.len() && src.len() <= 4200 {
+        if src.len() <= most * things.len() && src.len() <= 4200 && self.add(src) {
             for t in things {
                 let often = if t.starts_with("refusal") { 7 } else { 4 };
                 *self.wanted.entry(t).or_insert(often) -= 1;
             }
-            self.add(src);
         }
     }
 }
@@ -120,7 +125,7 @@ impl List {
 fn make(folder: &str) -> Vec<u8> {
     let mut l = List { cases: Vec::new(), wanted: HashMap::new(), records: Vec::new(), s: State::new() };
     for src in [&[][..], &[11, 119, 192, 0, 0, 128], &[11, 119, 0, 0, 0, 128], &[11, 119, 0, 3, 192, 128], &[11, 119, 0, 2, 192, 128], &[11, 119, 0, 2, 0, 128], &[11, 119, 0, 2, 0, 0]] {
-        l.add(src)
+        l.add(src);
     }
     // the second frame of each stream, unless it is long, and one of 5.1 channels
     let mut before = String::new();
@@ -128,7 +133,7 @@ fn make(folder: &str) -> Vec<u8> {
     for (stream, frame) in real::frames(folder) {
         turn = if stream == before { turn + 1 } else { 0 };
         if turn == 1 && (frame.len() <= 800 || stream == "5.1-48000-noise-448") {
-            l.add(&frame)
+            l.add(&frame);
         }
         before = stream;
     }
@@ -146,7 +151,7 @@ fn make(folder: &str) -> Vec<u8> {
     while l.cases.len() < 560 {
         let frame = d.frame(Kind::Any);
         if frame.len() < 500 {
-            l.add(&frame)
+            l.add(&frame);
         }
     }
     let refusals = (1..=13).chain(20..=32).map(|k| format!("refusal {k}"));
