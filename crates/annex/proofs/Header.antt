@@ -2,12 +2,12 @@
 use mathlib.Core.Path.{_≡_, refl, ap, sym, _∙_, subst}
 use mathlib.Core.Bool.{true}
 use mathlib.Core.List.{List}
-use Prim.Native.Nat.{ℕ, _+_, _*_, _%_, _<_, _^_}
+use Prim.Native.Nat.{ℕ, _+_, _*_, _%_, _<_}
 use native.Mathlib.Omega.{arith}
 use Rattle.bits.specs.Bits.{bitsAt}
 use Rattle.bits.proofs.BitLaws.{bitsAt-lt}
 use Rattle.reading.specs.Run.{accepted, Outcome, run}
-use Rattle.reading.specs.Frame.{Format, headerBy, seen, headed, Announces}
+use Rattle.reading.specs.Frame.{headerBy, seen, headed, Announces}
 use Rattle.reading.specs.CommonReading.{CommonReading}
 use Rattle.reading.proofs.Laws.{Ok}
 use Rattle.reading.proofs.Heads.{clear, good-of}
@@ -18,7 +18,7 @@ use Rattle.rows.specs.Syntax.{_⧺_, meaning}
 use Rattle.rows.proofs.Blocks.{meaning-append}
 use Rattle.annex.specs.Syncinfo.{syncinfo, bsi-size}
 use Rattle.annex.specs.Annex.{header}
-use Rattle.annex.specs.Frame.{start, bytesOf, announcedBy, eac3}
+use Rattle.annex.specs.Frame.{start, eac3}
 use Rattle.annex.proofs.Gives.{Gives, gives-next, gives-element, gives-reject, gives-end}
 
 -- with a good bsid the header is the meaning of its items

@@ -11,8 +11,8 @@ use borrow.Author.Tests.{le-leb, lt-leb, eq-eqb, ne-eqb}
 use Rattle.bits.specs.Bits.{bitsAt}
 use Rattle.bits.proofs.BitLaws.{bitsAt-lt}
 use Rattle.reading.specs.Tree.{Tree, done, _>>=_}
-use Rattle.reading.specs.Run.{Field, fieldOf, Result, accepted, refused, Outcome, out, after, run}
-use Rattle.reading.specs.Frame.{plain, headerBy, seen, headed, tail as tailOf, finish, framed, sized, parse}
+use Rattle.reading.specs.Run.{Field, fieldOf, accepted, refused, Outcome, out, after, run}
+use Rattle.reading.specs.Frame.{plain, headerBy, seen, tail as tailOf, finish, framed, sized, parse}
 use Rattle.reading.specs.Room.{Room, size, pushed, cut, fill, Out, got, into, record-in, exec}
 use Rattle.reading.proofs.Heads.{barrier, barred}
 use Rattle.reading.proofs.Rooms.{cut-same, go-on, _then_, exec-bind, exec-is, into-after}

@@ -2,8 +2,7 @@
 use mathlib.Core.Path.{_≡_}
 use mathlib.Core.Bool.{false, cond}
 use mathlib.Core.List.{List}
-use Prim.Native.Nat.{ℕ, _-_, _*_, _<_}
-use lib.ListN.{length}
+use Prim.Native.Nat.{ℕ, _-_, _<_}
 use Rattle.reading.specs.Run.{refused, Outcome, after}
 use Rattle.reading.specs.Frame.{headed, sized}
 use Rattle.reading.specs.Room.{Room, size, cut, Out, got, into}

@@ -1,6 +1,6 @@
 -- Laws of the header, and of what is looked at ahead in it. Assumes nothing.
 use mathlib.Core.Path.{_≡_, refl, subst}
-use mathlib.Core.Bool.{Bool, true, false, cond}
+use mathlib.Core.Bool.{Bool, true, false}
 use mathlib.Core.List.{List}
 use Prim.Native.Nat.{ℕ}
 use Rattle.reading.specs.Tree.{Tree, _>>=_}
