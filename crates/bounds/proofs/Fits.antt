@@ -276,7 +276,7 @@ module _ (byBounds : Item → Bool) where
           let t = both (may permits (a .base) (spread a ks) 0 tagsMost) (may permits (suc (a .base)) (spread a ks + 6) 0 65535) h in
           let s′ = spreads a ks (st .cells) w f in
           walked-mantissas s l Q name a st p es
-          (λ vs q fs n v g _ _ _. record {
+          (λ vs q fs n v g _ _ _ _. record {
             reached = record {
               changed = told-changes permits (st .cells) (placeOf a (st .cells)) vs (a .base) (spread a ks) w n v (t .0) (t .1) (s′ .0) (s′ .1);
               grows = g;

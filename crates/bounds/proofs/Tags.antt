@@ -22,13 +22,13 @@ use Rattle.derivations.specs.Mantissas.{mantissasIn}
 use Rattle.bounds.specs.Bounds.{tagsMost}
 
 -- what a walk inside a span tells, whatever the bits
-abbrev Tells : {A : Type 0} → (A → Type 0) → Skim A → Type 0
+abbrev pub Tells : {A : Type 0} → (A → Type 0) → Skim A → Type 0
 Tells P (stop a) = P a
 Tells P (fail n) = Unit {0}
 Tells P (at k) = (p : ℕ) → Tells P (k p)
 Tells P (take w k) = (v : ℕ) → Tells P (k v)
 
-tells-skim : {A : Type 0} (P : A → Type 0) (s : Skim A) → Tells P s → (b : List ℕ) (p l : ℕ) (a : A) → skim s b p l .result ≡ accepted a → P a
+pub tells-skim : {A : Type 0} (P : A → Type 0) (s : Skim A) → Tells P s → (b : List ℕ) (p l : ℕ) (a : A) → skim s b p l .result ≡ accepted a → P a
 unfolding skim
 tells-skim P (stop x) h b p l a e = let z : x ≡ a = cc in subst P z h
 tells-skim P (fail n) h b p l a e = absurd (let z : _≡_ {A = ℕ} 0 1 = cc in let y : ⊥ = omega arith in y)
@@ -39,19 +39,19 @@ tells-skim {A} P (take w k) h b p l a e = go (leb (p + w) l) (λ q. tells-skim P
     go true f e = f e
     go false f e = absurd (let z : _≡_ {A = ℕ} 0 1 = cc in let y : ⊥ = omega arith in y)
 
-tells-bind : {A B : Type 0} (P : A → Type 0) (Q : B → Type 0) (s : Skim A) (f : A → Skim B) → Tells P s → ((a : A) → P a → Tells Q (f a)) → Tells Q (s >>- f)
+pub tells-bind : {A B : Type 0} (P : A → Type 0) (Q : B → Type 0) (s : Skim A) (f : A → Skim B) → Tells P s → ((a : A) → P a → Tells Q (f a)) → Tells Q (s >>- f)
 unfolding _>>-_
 tells-bind P Q (stop a) f h k = k a h
 tells-bind P Q (fail n) f h k = tt
 tells-bind P Q (at j) f h k = λ p. tells-bind P Q (j p) f (h p) k
 tells-bind P Q (take w j) f h k = λ v. tells-bind P Q (j v) f (h v) k
 
-tells-if : {A : Type 0} (P : A → Type 0) (c : Bool) (s t : Skim A) → Tells P s → Tells P t → Tells P (cond c s t)
+pub tells-if : {A : Type 0} (P : A → Type 0) (c : Bool) (s t : Skim A) → Tells P s → Tells P t → Tells P (cond c s t)
 tells-if P true s t h k = h
 tells-if P false s t h k = k
 
 -- something is told, of which nothing is asked
-tells-any : {A : Type 0} (s : Skim A) → Tells (λ _. Unit {0}) s
+pub tells-any : {A : Type 0} (s : Skim A) → Tells (λ _. Unit {0}) s
 tells-any (stop a) = tt
 tells-any (fail n) = tt
 tells-any (at k) = λ p. tells-any (k p)

@@ -206,9 +206,9 @@ module _ (s : List ℕ) (l : ℕ) (Q : Item → Point) where
 
   pub walked-mantissas : (name : ℕ) (a : Addr) (st : State) (p : ℕ) (es : List Entry) {R : Point}
       → ((vs : List ℕ) (q : ℕ) (fs : List Entry) → length vs ≡ 8 → getD vs 0 0 ≤ tagsMost → Grows es fs → p + total (drop 1 vs) ≡ q → q ≤ max p l
-      → Among (region (partOf name none (st .cells)) p (q - p)) fs → R (storedAll st (placeOf a (st .cells)) vs) q fs) → Walked (mantissas name a) st p es R
+      → Among (region (partOf name none (st .cells)) p (q - p)) fs → skim (mantissasIn st) s p l .result ≡ accepted vs → R (storedAll st (placeOf a (st .cells)) vs) q fs) → Walked (mantissas name a) st p es R
   unfolding Inside item run after
-  walked-mantissas name a st p es {R} h = record { inside = tt; ends = go (O .result) (λ v e. (eight-told st s p l v e, tags-most st s p l v e, bits-add-up st s p l v e, skim-reaches (mantissasIn st) s p l)) }
+  walked-mantissas name a st p es {R} h = record { inside = tt; ends = go (O .result) (λ v e. (eight-told st s p l v e, tags-most st s p l v e, bits-add-up st s p l v e, skim-reaches (mantissasIn st) s p l, e)) }
     where
       O : Outcome (List ℕ)
       O = skim (mantissasIn st) s p l
@@ -219,11 +219,11 @@ module _ (s : List ℕ) (l : ℕ) (Q : Item → Point) where
       F : List ℕ → ℕ → Outcome State
       F v e = cons (region x p (e - p)) (out (accepted (storedAll st (placeOf a (st .cells)) v)) e [])
 
-      go : (r : Result (List ℕ)) → ((v : List ℕ) → r ≡ accepted v → (length v ≡ 8) × (getD v 0 0 ≤ tagsMost) × (p + total (drop 1 v) ≡ O .place) × (O .place ≤ max p l)) → (c : State) → andThen r (O .place) (O .records) F .result ≡ accepted c
+      go : (r : Result (List ℕ)) → ((v : List ℕ) → r ≡ accepted v → (length v ≡ 8) × (getD v 0 0 ≤ tagsMost) × (p + total (drop 1 v) ≡ O .place) × (O .place ≤ max p l) × (O .result ≡ accepted v)) → (c : State) → andThen r (O .place) (O .records) F .result ≡ accepted c
           → R c (andThen r (O .place) (O .records) F .place) (es ++ andThen r (O .place) (O .records) F .records)
       go (accepted v) t c e =
           let z : storedAll st (placeOf a (st .cells)) v ≡ c = cc in
-          subst (λ y. R y (O .place) (es ++ (O .records ++ (region x p (O .place - p) ∷ [])))) z (h v (O .place) _ (t v refl .0) (t v refl .1) (grows-append es _) (t v refl .2) (t v refl .3) (member-last (region x p (O .place - p)) es (O .records)))
+          subst (λ y. R y (O .place) (es ++ (O .records ++ (region x p (O .place - p) ∷ [])))) z (h v (O .place) _ (t v refl .0) (t v refl .1) (grows-append es _) (t v refl .2) (t v refl .3) (member-last (region x p (O .place - p)) es (O .records)) (t v refl .4))
       go (refused n) t c e = absurd (let z : _≡_ {A = ℕ} 0 1 = cc in omega arith)
 
   pub walked-exponents : (x : Sum) (name : ℕ) (i : Sum) (st : State) (p : ℕ) (es : List Entry) {R : Point}

@@ -1,10 +1,11 @@
--- The bits of the slots of each block of an accepted frame add up to the width of its mantissas record. Assumes nothing.
+-- The bits of the slots of each block of an accepted frame add up to the width of its mantissas record, and a slot that is not in use or was read before has none.
+-- Assumes nothing.
 use mathlib.Core.Path.{_≡_, refl, ap, sym, _∙_, subst}
 use mathlib.Core.Bool.{Bool, true, false, cond}
 use mathlib.Core.List.{List, [], _∷_, _++_, map, append-assoc}
 use mathlib.Core.Option.{some}
 use mathlib.Core.Logic.{_⊎_, inl, inr}
-use Prim.Native.Nat.{ℕ, zero, suc, _+_, _-_, _*_, _<_}
+use Prim.Native.Nat.{ℕ, suc, _+_, _-_, _*_, _≤_, _<_}
 use native.Mathlib.Omega.{arith}
 use lib.Dec.{leb, eqb}
 use lib.IntN.{pos}
@@ -16,9 +17,12 @@ use Rattle.reading.specs.Room.{size, cut}
 use Rattle.reading.specs.Frame.{TailNames, plain, auxdataeAt, ending, tail, finish, framed, sized, parse}
 use Rattle.reading.proofs.Rooms.{cut-same}
 use Rattle.names.specs.Names.{mantissas}
+use Rattle.tables.specs.Small.{nfchans}
+use Rattle.slots.specs.Slots.{CPL, LFE}
 use Rattle.cells.specs.Cells.{State, cellOf}
-use Rattle.cells.specs.Names.{NUMBLKS, SLOT-BITS}
-use Rattle.sideinfo.specs.Steps.{sumOf, tabOf}
+use Rattle.cells.specs.Names.{ACMOD, AHTINU, NUMBLKS, SLOT-BITS}
+use Rattle.sideinfo.specs.Steps.{sumOf}
+use Rattle.sideinfo.specs.Blocks.{flagOf}
 use Rattle.rows.specs.Syntax.{meaning}
 use Rattle.annex.specs.Annex.{header, body}
 use Rattle.annex.specs.Frame.{start, bytesOf, tailNames, eac3}
@@ -27,11 +31,13 @@ use Rattle.answer.specs.declared.Answer.{Answer}
 use Rattle.answer.specs.declared.Frame.{Frame}
 use Rattle.answer.specs.declared.SlotBits.{SlotBits as Bits}
 use Rattle.bounds.specs.Along.{Among}
-use Rattle.slot_sums.specs.SlotSums.{Adds}
+use Rattle.slot_sums.specs.SlotSums.{slotBits}
 use Rattle.bounds.proofs.Walking.{grows-append}
-use Rattle.slot_sums.proofs.Sums.{sum-same, slots-add-up}
+use Rattle.slot_sums.proofs.Sums.{sum-same, slots-add-up, unused-have-none, channels-by-acmod}
+use Rattle.slot_sums.proofs.Unused.{tab-first}
+use Rattle.slot_sums.proofs.Zeros.{other-blocks-have-none, none-coupled}
 use Rattle.demands.specs.Calls.{Call, count, nth, Accepts}
-use Rattle.demands.specs.SlotBits.{bitsOf, MantissasOf, SlotBits}
+use Rattle.demands.specs.SlotBits.{bitsOf, MantissasOf, NoBitsOf, SlotBits}
 use Rattle.demands.proofs.Calls.{outcome, is, accepts, held}
 
 -- a tree that gives only a
@@ -146,18 +152,11 @@ among-at : (e : Entry) (es : List Entry) → Among e es → (i : ℕ) × (getEle
 among-at e (x ∷ es) (inl h) = (0, ap (λ (e : Entry). some (e .field)) h)
 among-at e (x ∷ es) (inr h) = let r = among-at e es h in (suc (r .0), r .1)
 
-tab-at : {A : Type 0} (f : ℕ → A) (d : A) (i n k : ℕ) → k < n → getD (tabOf f i n) k d ≡ f (i + k)
-unfolding tabOf
-tab-at f d i zero k h = absurd (let z : ⊥ = omega arith in z)
-tab-at f d i (suc n) zero h = ap f (let z : i ≡ i + 0 = omega arith in z)
-tab-at f d i (suc n) (suc k) h = tab-at f d (suc i) n k (omega arith) ∙ ap f (let z : suc i + k ≡ i + suc k = omega arith in z)
-
 -- the bits that the answer holds are those of the cells
 bits-are : (m : List ℕ) (j slot : ℕ) → j < 6 → slot < 7 → getD (getD (slotBitsIn m) j (record { bits = [] }) .bits) slot 0 ≡ cellOf m (SLOT-BITS + 8 * j + slot)
 bits-are m j slot h k =
-    ap (λ (x : Bits). getD (x .bits) slot 0) (tab-at (λ b. slotBitsAt m (SLOT-BITS + 8 * b)) (record { bits = [] }) 0 6 j h)
-    ∙ tab-at (λ i. cellOf m (SLOT-BITS + 8 * (0 + j) + i)) 0 0 7 slot k
-    ∙ ap (cellOf m) (let z : SLOT-BITS + 8 * (0 + j) + (0 + slot) ≡ SLOT-BITS + 8 * j + slot = omega arith in z)
+    ap (λ (x : Bits). getD (x .bits) slot 0) (tab-first (λ b. slotBitsAt m (SLOT-BITS + 8 * b)) (record { bits = [] }) 6 j h)
+    ∙ tab-first (λ i. cellOf m (SLOT-BITS + 8 * j + i)) 0 7 slot k
 
 found : {s : List ℕ} (c : Call s) (j i : ℕ) (f : Field) → i < count c → nth c i ≡ f → f .name ≡ mantissas → f .block ≡ pos j → f .width ≡ sumOf (bitsOf c j) 7 → MantissasOf c j
 found c j i f h e n b w = record {
@@ -168,18 +167,71 @@ found c j i f h e n b w = record {
   width = ap (λ (x : Field). x .width) e ∙ w;
 }
 
+-- an accepted call: the state that the definition gives, and the frame that it tells
+record Whole (s : List ℕ) (c : Call s) : Type 0 where
+  st : State
+  same : outcome c ≡ parse eac3 s
+  read : parse eac3 s .result ≡ accepted st
+  frame : c .answer .frame ≡ frameOf (st .cells) (outcome c .place) (0 + length (outcome c .records))
+
+whole : (s : List ℕ) (c : Call s) → Accepts c → Whole s c
+whole s c a =
+    let u = accepts c a in
+    let st = u .0 in
+    let same : outcome c ≡ parse eac3 s = cut-same (size (c .lent)) (parse eac3 s) (λ q. let z : accepted st ≡ refused 33 = sym (u .1) ∙ q in let y : _≡_ {A = ℕ} 0 1 = cc in let o : ⊥ = omega arith in o) in
+    record {
+      st = st;
+      same = same;
+      read = ap (λ (o : Outcome State). o .result) (sym same) ∙ u .1;
+      frame = ap (λ (x : Answer). x .frame) (is c ∙ ap (λ (r : Result State). answerBy r (outcome c .place) (0 + length (outcome c .records))) (u .1));
+    }
+
+-- its bits are those of the cells
+bits-in : (s : List ℕ) (c : Call s) (W : Whole s c) (j slot : ℕ) → j < 6 → slot < 7 → bitsOf c j slot ≡ slotBits (W .st .cells) j slot
+bits-in s c W j slot h k = ap (λ (x : Frame). getD (getD (x .«slot_bits») j (record { bits = [] }) .bits) slot 0) (W .frame) ∙ bits-are (W .st .cells) j slot h k
+
 pub slot-bits : (s : List ℕ) (c : Call s) → SlotBits s c
-slot-bits s c = record { adds-up = λ a j h. go a j h }
+slot-bits s c = record { adds-up = λ a j h. go a j h; unused = λ a j h. none a j h; others = λ a j slot h k o. other a j slot h k o }
   where
+    -- the block is one of the definition's
+    block : (W : Whole s c) (j : ℕ) → j < c .answer .frame .numblks → j < cellOf (W .st .cells) NUMBLKS
+    block W j h = subst (λ n. j < n) (ap (λ (x : Frame). x .numblks) (W .frame)) h
+
+    other : Accepts c → (j slot : ℕ) → c .answer .frame .numblks ≤ j → j < 6 → slot < 7 → bitsOf c j slot ≡ 0
+    other a j slot h k o =
+        let W = whole s c a in
+        let P = parts s (W .st) (W .read) in
+        bits-in s c W j slot k o ∙ other-blocks-have-none s (P .head) (W .st) (P .headed) (P .bodied) j slot (subst (λ n. n ≤ j) (ap (λ (x : Frame). x .numblks) (W .frame)) h) k o
+
+    none : Accepts c → (j : ℕ) → j < c .answer .frame .numblks → NoBitsOf c j
+    none a j h =
+        let W = whole s c a in
+        let m = W .st .cells in
+        let P = parts s (W .st) (W .read) in
+        let k = block W j h in
+        let few = slots-add-up s (P .head) (W .st) (P .headed) (P .bodied) j k .0 in
+        let N = unused-have-none s (P .head) (W .st) (P .headed) (P .bodied) j k in
+        let E = channels-by-acmod s (P .head) (W .st) (P .headed) (P .bodied) in
+        record {
+          channels = λ ch i o.
+              let e : c .answer .frame .acmod ≡ cellOf m ACMOD = ap (λ (x : Frame). x .acmod) (W .frame) in
+              let z = subst (λ n. getD nfchans n 0 ≤ ch) e i in
+              bits-in s c W j ch few (omega arith) ∙ N .channels ch (omega arith) o;
+          lfe = λ e. bits-in s c W j LFE few (omega arith) ∙ N .lfe (sym (ap (λ (x : Frame). x .lfeon) (W .frame)) ∙ e);
+          coupling = λ e. bits-in s c W j CPL few (omega arith) ∙ N .coupling (none-coupled s (P .head) (W .st) (P .headed) (P .bodied) (sym (ap (λ (x : Frame). x .«cpl_blocks») (W .frame)) ∙ e) j k);
+          hybrid = λ slot i o l e t.
+              let f : getD (c .answer .frame .«aht_slots») slot false ≡ flagOf m (AHTINU + slot) = ap (λ (x : Frame). getD (x .«aht_slots») slot false) (W .frame) ∙ tab-first (λ n. flagOf m (AHTINU + n)) false 7 slot o in
+              let b = bits-in s c W i slot (omega arith) o in
+              bits-in s c W j slot few o ∙ N .hybrid slot i o l (sym f ∙ e) (omega arith);
+        }
+
     go : Accepts c → (j : ℕ) → j < c .answer .frame .numblks → MantissasOf c j
     go a j h =
-        let u = accepts c a in
-        let st = u .0 in
-        let same : outcome c ≡ parse eac3 s = cut-same (size (c .lent)) (parse eac3 s) (λ q. let z : accepted st ≡ refused 33 = sym (u .1) ∙ q in let y : _≡_ {A = ℕ} 0 1 = cc in let o : ⊥ = omega arith in o) in
-        let p : parse eac3 s .result ≡ accepted st = ap (λ (o : Outcome State). o .result) (sym same) ∙ u .1 in
-        let P = parts s st p in
-        let F : c .answer .frame ≡ frameOf (st .cells) (outcome c .place) (0 + length (outcome c .records)) = ap (λ (x : Answer). x .frame) (is c ∙ ap (λ (r : Result State). answerBy r (outcome c .place) (0 + length (outcome c .records))) (u .1)) in
-        let k : j < cellOf (st .cells) NUMBLKS = subst (λ n. j < n) (ap (λ (x : Frame). x .numblks) F) h in
+        let W = whole s c a in
+        let st = W .st in
+        let same = W .same in
+        let P = parts s st (W .read) in
+        let k = block W j h in
         let D = slots-add-up s (P .head) st (P .headed) (P .bodied) j k in
         let X = D .1 in
         let A : Among (X .entry) (outcome c .records) = subst (Among (X .entry)) (sym (ap (λ (o : Outcome State). o .records) same ∙ P .lists)) (grows-append (run (meaning header start) s 0 48 .records ++ run (meaning body (P .head)) s (run (meaning header start) s 0 48 .place) (8 * bytesOf (P .head)) .records) (P .more) .keeps (X .entry) (X .among)) in
@@ -187,4 +239,4 @@ slot-bits s c = record { adds-up = λ a j h. go a j h }
         let H = held c (T .0) (X .entry .field) (T .1) in
         found c j (T .0) (X .entry .field) (H .0) (H .1) (X .name) (X .block)
         (X .width
-        ∙ sum-same (λ slot. cellOf (st .cells) (SLOT-BITS + 8 * j + slot)) (bitsOf c j) 7 (λ slot i. sym (ap (λ (x : Frame). getD (getD (x .«slot_bits») j (record { bits = [] }) .bits) slot 0) F ∙ bits-are (st .cells) j slot (D .0) i)))
+        ∙ sum-same (slotBits (st .cells) j) (bitsOf c j) 7 (λ slot i. sym (bits-in s c W j slot (D .0) i)))

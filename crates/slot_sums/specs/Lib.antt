@@ -1,1 +1,2 @@
+pub mod NoBits
 pub mod SlotSums

@@ -13,9 +13,12 @@ use Rattle.annex.specs.Annex.{header, body}
 use Rattle.annex.specs.Frame.{start, bytesOf}
 use Rattle.bounds.specs.Along.{Among}
 
--- the bits of all slots in the block j
+-- the bits of a slot in the block j, and those of all slots
+abbrev pub slotBits : List ℕ → ℕ → ℕ → ℕ
+slotBits m j slot = cellOf m (SLOT-BITS + 8 * j + slot)
+
 abbrev pub slotSum : List ℕ → ℕ → ℕ
-slotSum m j = sumOf (λ slot. cellOf m (SLOT-BITS + 8 * j + slot)) 7
+slotSum m j = sumOf (slotBits m j) 7
 
 -- the mantissas record of the block j is among the records, and as wide as that
 pub record Adds (m : List ℕ) (es : List Entry) (j : ℕ) : Type 0 where

@@ -166,7 +166,7 @@ module _ (s : List ℕ) (l : ℕ) where
     sized-item (element name i w a) st p es h = walked-element s l Anywhere name i w a st p es (λ v fs _ _ _. h)
     sized-item (elements name i w a k f n) st p es h = walked-elements s l Anywhere name i w a k f n st p es (λ j. Held) h (λ j x q fs _ g. (tt, λ v gs _ _. g)) (λ j x q fs _ g. g)
     sized-item (span name k) st p es h = walked-span s l Anywhere name k st p es (λ q fs _. h)
-    sized-item (mantissas name a) st p es h = walked-mantissas s l Anywhere name a st p es (λ vs q fs _ _ _ _ _ _. h)
+    sized-item (mantissas name a) st p es h = walked-mantissas s l Anywhere name a st p es (λ vs q fs _ _ _ _ _ _ _. h)
     sized-item (exponents x name i) st p es h = walked-exponents s l Anywhere x name i st p es (λ e q fs _. h)
     sized-item (when c b) st p es h = walked-when s l Anywhere c b st p es (λ _. sized-block b st p es h) (λ _. h)
     sized-item (each k i n b) st p es h = walked-each s l Anywhere k i n b st p es (λ j. Held) h (λ j a q fs _ g. sized-block b (stored a k j) q fs g) (λ j a q fs _ g. g)
@@ -292,7 +292,7 @@ module _ (s : List ℕ) (l : ℕ) where
       )))
       (λ b u gs r. walks-next s l Pointed _ _ b u gs {M = Kept s l} (λ name c e. r .1)
       (walked-mantissas s l Pointed _ (cell TAGS) b u gs
-      (λ vs t hs n v _ _ _ _.
+      (λ vs t hs n v _ _ _ _ _.
       let e = place-cell TAGS (b .cells) in
       (told-changes (any s l) (b .cells) (placeOf (cell TAGS) (b .cells)) vs TAGS 0 (r .0 .0) n v may-tags may-bits (omega arith) (omega arith) .within, r .0 .1)))
       (λ c t hs k. plain-walk s l _ refl c t hs k)))

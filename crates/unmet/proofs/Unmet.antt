@@ -188,7 +188,7 @@ module _ (s : List ℕ) (l : ℕ) where
       (λ x u hs f i. walks-next s l Unmet _ _ x u hs {M = λ y v is. Changed (leavesUnsent settled) (a .cells) (y .cells) × Grows fs is}
       (ends-fit (x .cells) (ranged-stays (a .cells) (x .cells) (unsent-leaves throughExponents (a .cells) (x .cells) f) (d .ranged)))
       (walked-mantissas s l Unmet _ (cell TAGS) x u hs
-      (λ vs w is n t k _ _ _.
+      (λ vs w is n t k _ _ _ _.
       let e = place-cell TAGS (x .cells) in (
         changed-then (leavesUnsent settled) (a .cells) (x .cells) (putsIn (x .cells) (placeOf (cell TAGS) (x .cells)) vs) (exponents-settled (a .cells) (x .cells) f)
             (told-changes (leavesUnsent settled) (x .cells) (placeOf (cell TAGS) (x .cells)) vs TAGS 0 (f .within) n t may-tags may-bits (omega arith) (omega arith)),

@@ -60,6 +60,26 @@ module _ (x y : List ℕ) (slot : ℕ) where
       (fun-ext (λ mode. ap (λ m. gainsOf mode m >>- (λ gains. binsOf mode gains x slot bin n 0 0)) (active-same mode bin n h)
       ∙ ap (λ f. gainsOf mode (activeIn mode y slot bin n) >>- f) (fun-ext (λ gains. bins-same mode gains bin n 0 0 h))))
 
+-- the slots that are visited are among those that the block has
+pub used-channel : (shape : Shape) (ch : ℕ) → ch < min (shape .nfchans) 5 → usedOf shape ch ≡ true
+unfolding usedOf
+used-channel shape ch h =
+    let e : eqb ch CPL ≡ false = ne-eqb ch 5 (λ z. omega arith) in
+    let f : eqb ch LFE ≡ false = ne-eqb ch 6 (λ z. omega arith) in
+    rw (e, f) (lt-ltb ch (min (shape .nfchans) 5) h)
+
+pub used-coupling : (shape : Shape) (d g : Bool) → ((shape .cplinu && d) && g) ≡ true → usedOf shape CPL ≡ true
+unfolding usedOf
+used-coupling shape d g e = go (shape .cplinu) e
+  where
+    go : (c : Bool) → ((c && d) && g) ≡ true → c ≡ true
+    go true e = refl
+    go false e = absurd (true≢false (sym e))
+
+pub used-lfe : (shape : Shape) → shape .lfeon ≡ true → usedOf shape LFE ≡ true
+unfolding usedOf
+used-lfe shape e = e
+
 module _ (shape : Shape) (x y : List ℕ) (same : (slot bin : ℕ) → slot < 7 → bin < 256 → requestedOf shape slot ≡ true → pointer x slot bin ≡ pointer y slot bin) where
   visit-same : (slot : ℕ) (a : Along) → slot < 7 → usedOf shape slot ≡ true → visitOf x shape slot a ≡ visitOf y shape slot a
   unfolding visitOf requestedOf Same
@@ -93,32 +113,13 @@ module _ (shape : Shape) (x y : List ℕ) (same : (slot bin : ℕ) → slot < 7 
   visit-if-same true slot a h u = visit-same slot a h (u refl)
   visit-if-same false slot a h u = refl
 
-  used-channel : (ch : ℕ) → ch < min (shape .nfchans) 5 → usedOf shape ch ≡ true
-  unfolding usedOf
-  used-channel ch h =
-      let e : eqb ch CPL ≡ false = ne-eqb ch 5 (λ z. omega arith) in
-      let f : eqb ch LFE ≡ false = ne-eqb ch 6 (λ z. omega arith) in
-      rw (e, f) (lt-ltb ch (min (shape .nfchans) 5) h)
-
-  used-coupling : (d : Bool) (g : Bool) → ((shape .cplinu && d) && g) ≡ true → usedOf shape CPL ≡ true
-  unfolding usedOf
-  used-coupling d g e = go (shape .cplinu) e
-    where
-      go : (c : Bool) → ((c && d) && g) ≡ true → c ≡ true
-      go true e = refl
-      go false e = absurd (true≢false (sym e))
-
-  used-lfe : shape .lfeon ≡ true → usedOf shape LFE ≡ true
-  unfolding usedOf
-  used-lfe e = e
-
   slots-same : (ch n : ℕ) (got : Bool) (a : Along) → ch + n ≡ min (shape .nfchans) 5 → slotsOf x shape ch n got a ≡ slotsOf y shape ch n got a
   unfolding slotsOf
-  slots-same ch zero got a h = ap (λ s. s >>- (λ a. stop (a .tags ∷ a .bits))) (visit-if-same (shape .lfeon) LFE a (omega arith) used-lfe)
+  slots-same ch zero got a h = ap (λ s. s >>- (λ a. stop (a .tags ∷ a .bits))) (visit-if-same (shape .lfeon) LFE a (omega arith) (used-lfe shape))
   slots-same ch (suc n) got a h =
-      ap (λ s. s >>- (λ a. visitIf x shape (coupled && not got) CPL a >>- (λ a. slotsOf x shape (suc ch) n (got || coupled) a))) (visit-if-same true ch a (omega arith) (λ _. used-channel ch (omega arith)))
+      ap (λ s. s >>- (λ a. visitIf x shape (coupled && not got) CPL a >>- (λ a. slotsOf x shape (suc ch) n (got || coupled) a))) (visit-if-same true ch a (omega arith) (λ _. used-channel shape ch (omega arith)))
       ∙ ap (λ f. visitIf y shape true ch a >>- f)
-      (fun-ext (λ b. ap (λ s. s >>- (λ a. slotsOf x shape (suc ch) n (got || coupled) a)) (visit-if-same (coupled && not got) CPL b (omega arith) (λ e. used-coupling (getD (shape .chincpl) ch false) (not got) e))
+      (fun-ext (λ b. ap (λ s. s >>- (λ a. slotsOf x shape (suc ch) n (got || coupled) a)) (visit-if-same (coupled && not got) CPL b (omega arith) (λ e. used-coupling shape (getD (shape .chincpl) ch false) (not got) e))
       ∙ ap (λ f. visitIf y shape (coupled && not got) CPL b >>- f) (fun-ext (λ c. slots-same (suc ch) n (got || coupled) c (omega arith)))))
     where
       coupled : Bool
