@@ -119,7 +119,7 @@ impl List {
 
 fn make(folder: &str) -> Vec<u8> {
     let mut l = List { cases: Vec::new(), wanted: HashMap::new(), records: Vec::new(), s: State::new() };
-    for src in [&[][..], &[11, 119, 192, 0, 0, 0], &[11, 119, 0, 0, 0, 0], &[11, 119, 0, 3, 192, 0], &[11, 119, 0, 2, 192, 0], &[11, 119, 0, 2, 0, 128], &[11, 119, 0, 2, 0, 0]] {
+    for src in [&[][..], &[11, 119, 192, 0, 0, 128], &[11, 119, 0, 0, 0, 128], &[11, 119, 0, 3, 192, 128], &[11, 119, 0, 2, 192, 128], &[11, 119, 0, 2, 0, 128], &[11, 119, 0, 2, 0, 0]] {
         l.add(src)
     }
     // the second frame of each stream, unless it is long, and one of 5.1 channels

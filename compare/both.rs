@@ -1,8 +1,9 @@
 //! One input for both: the unchanged Rust and our reader, each held to the other, and to the numbered walk where the Rust
-//! gives nothing. What was met is counted.
+//! gives nothing. What was met is counted. Where bsid is not E-AC-3's our reader is held to the numbered walk alone: it looks at
+//! bsid straight after the sync word, and the Rust at its record (docs/DIFFERENCES.md).
 use crate::features::{features, FEATURES};
 use crate::names::{NAMES, ROLES};
-use crate::numbered::{read, Answer, Record, Seen, State};
+use crate::numbered::{bits, read, Answer, Record, Seen, State};
 use crate::theirs::{answer_of, kind, told, verdict};
 use reference::error::Result;
 use reference::frame::Frame;
@@ -95,6 +96,9 @@ pub struct Met {
     /// Of the accepted frames.
     pub features: [u64; FEATURES.len()],
     pub seen: Seen,
+    /// Of those with another bsid: the Rust's numbers, and rooms of 1 to 8.
+    pub others: [u64; 64],
+    pub small_rooms: u64,
 }
 
 /// What both are compared with and in.
@@ -108,7 +112,7 @@ pub struct Both {
 
 impl Both {
     pub fn new() -> Both {
-        let met = Met { inputs: 0, accepted: 0, numbers: [0; 64], names: [0; 202], features: [0; FEATURES.len()], seen: Seen::default() };
+        let met = Met { inputs: 0, accepted: 0, numbers: [0; 64], names: [0; 202], features: [0; FEATURES.len()], seen: Seen::default(), others: [0; 64], small_rooms: 0 };
         Both { rooms: Rooms::new(), records: Vec::new(), s: State::new(), met, turn: 0 }
     }
 
@@ -131,9 +135,14 @@ impl Both {
         let theirs = std::panic::catch_unwind(|| reference::eac3::parse(src)).map_err(|_| "our reader gives an answer, the Rust panics".to_string())?;
         let len = more.map(|m| self.records.len() + m);
         let ours = self.ours(src, len, &walked);
-        beside("our reader", &theirs, &ours.answer, |k| self.rooms.at(k))?;
-        self.held(&ours, len, &walked)?;
-        beside("the numbered walk", &theirs, &walked, |k| self.records[k])?;
+        if other_bsid(src) {
+            self.met.others[later(src, &theirs)? as usize] += 1;
+            self.held(&ours, len, &walked)?;
+        } else {
+            beside("our reader", &theirs, &ours.answer, |k| self.rooms.at(k))?;
+            self.held(&ours, len, &walked)?;
+            beside("the numbered walk", &theirs, &walked, |k| self.records[k])?;
+        }
         Ok(theirs)
     }
 
@@ -144,6 +153,7 @@ impl Both {
         let walked = read(src, room, &mut self.records, &mut self.s, &mut seen);
         self.met.inputs += 1;
         self.met.numbers[walked[0] as usize] += 1;
+        self.met.small_rooms += u64::from(other_bsid(src) && (1..=8).contains(&room));
         let ours = self.ours(src, len, &walked);
         self.held(&ours, len, &walked)
     }
@@ -189,6 +199,22 @@ fn stand_in(_: &[u8], rooms: &mut Rooms, records: &[Record], walked: &Answer, an
     }
     *answer = *walked;
     walked[0] as u8
+}
+
+/// Whether a slice of 6 bytes or more has the sync word and a bsid that is not E-AC-3's.
+fn other_bsid(src: &[u8]) -> bool {
+    src.len() >= 6 && src[..2] == [0x0b, 0x77] && !(11..=16).contains(&(src[5] >> 3))
+}
+
+/// The Rust's number for such a slice: what it tests before the bsid record, or 6.
+fn later(src: &[u8], theirs: &Result<Frame>) -> std::result::Result<u64, String> {
+    let number = theirs.as_ref().err().map_or(0, |e| told(e).0);
+    let short = bits(src, 21, 11) < 2;
+    match number {
+        3..=6 => Ok(number),
+        8 if short => Ok(number),
+        _ => Err(format!("our reader looks at bsid first, the Rust gives {number}")),
+    }
 }
 
 /// An answer with enough room beside the Rust's: accepted or not, the kind of error and its message, the frame, and each record.

@@ -2,7 +2,7 @@
 //! a source that chooses each value and writes it. A plan made beforehand keeps most frames in order, so that they are
 //! accepted; some plans aim at a refusal.
 use crate::names::*;
-use crate::numbered::{Inside, Record, Seen, Source, State, Stop, Walk, CPL, SPX_BEGIN, SPX_END};
+use crate::numbered::{bits, Inside, Record, Seen, Source, State, Stop, Walk, CPL, SPX_BEGIN, SPX_END};
 use crate::standard::{FRAME_EXPSTR, NFCHANS};
 
 pub struct Random(pub u64);
@@ -39,6 +39,9 @@ pub fn put(to: &mut [u8], first: usize, width: usize, value: u32) {
         }
     }
 }
+
+/// Some bsid that are not E-AC-3's.
+const OTHERS: [u32; 9] = [0, 6, 8, 9, 10, 17, 18, 24, 31];
 
 /// What a frame is drawn for.
 #[derive(Clone, Copy, PartialEq, Eq, Debug)]
@@ -221,6 +224,8 @@ impl Source for Draw {
             Inside::Composite if bad && self.r.chance(1, 6) => 27 + self.r.below(5) as u32,
             Inside::Composite => self.r.below(27) as u32,
             Inside::Small if self.r.chance(1, 8) => 1 << (width - 1),
+            Inside::Bsid if self.plan.aim == 6 => self.r.pick(&OTHERS),
+            Inside::Bsid => self.r.pick(&[16, 16, 16, 11, 12, 13, 14, 15]),
             _ => self.r.below(1 << width) as u32,
         };
         put(&mut self.buf, first, width, value);
@@ -249,7 +254,8 @@ impl Draw {
             NUMBLKSCOD => self.plan.numblkscod,
             ACMOD => self.plan.acmod,
             LFEON => self.plan.lfeon.into(),
-            BSID => if aim == 6 { self.r.pick(&[0, 6, 8, 9, 10, 17, 18, 24, 31]) } else { self.r.pick(&[16, 16, 16, 11, 12, 13, 14, 15]) },
+            // as it was looked at ahead
+            BSID => bits(&self.buf, 40, width),
             MIXMDATE => if aim == 20 { 1 } else { self.flag(self.plan.often, 16) },
             COMPRE | COMPR2E | CHANMAPE | INFOMDATE | ADDBSIE | PGMSCLE | PGMSCL2E | EXTPGMSCLE | PANINFOE | PANINFO2E | FRMMIXCFGINFOE
             | AUDPRODIE | AUDPRODI2E | TRANSPROCE | SPXATTENE | DYNRNGE | DYNRNG2E | CONVSNROFFSTE => self.flag(self.plan.often, 16),
@@ -488,7 +494,7 @@ pub fn damage(r: &mut Random, frame: &[u8], records: &[Record]) -> Vec<u8> {
         }
     };
     let announce = |out: &mut Vec<u8>, words: usize| put(out, 21, 11, words.clamp(1, 2048) as u32 - 1);
-    match r.below(12) {
+    match r.below(13) {
         0..=2 => {
             let x = any(r);
             flip(&mut out, usize::from(x.first) + r.below(x.width.into()))
@@ -526,6 +532,7 @@ pub fn damage(r: &mut Random, frame: &[u8], records: &[Record]) -> Vec<u8> {
             let bit = usize::from(x.first) + r.below(usize::from(x.width) + 1);
             announce(&mut out, (bit + r.below(16)) / 16)
         }
+        11 => put(&mut out, 40, 5, r.pick(&OTHERS)),
         // other bits from an element on
         _ => {
             let first = usize::from(any(r).first).max(45) / 8 + 1;

@@ -27,6 +27,7 @@ pub enum Inside {
     Composite,
     Small,
     Auxdatae,
+    Bsid,
 }
 
 /// Where the bits come from.
@@ -325,6 +326,10 @@ impl<S: Source> Walk<'_, S> {
         if self.n(SYNCWORD, 16)? != 0x0b77 {
             return self.stop(2);
         }
+        // AC-3 and E-AC-3 have bsid at the same place
+        if !(11..=16).contains(&self.src.inside(Inside::Bsid, 40, 5)) {
+            return Err(Stop(6, 45));
+        }
         self.s.strmtyp = self.n(STRMTYP, 2)?;
         self.s.substreamid = self.n(SUBSTREAMID, 3)?;
         self.s.frmsiz = self.n(FRMSIZ, 11)? as usize;
@@ -350,9 +355,6 @@ impl<S: Source> Walk<'_, S> {
         self.s.nfchans = usize::from(NFCHANS[self.s.acmod as usize]);
         self.s.lfeon = self.flag(LFEON)?;
         self.s.bsid = self.n(BSID, 5)?;
-        if self.s.bsid < 11 || self.s.bsid > 16 {
-            return self.stop(6);
-        }
         let dual = self.s.acmod == 0;
         self.n(DIALNORM, 5)?;
         self.maybe(COMPRE, COMPR, 8)?;

@@ -115,6 +115,8 @@ fn report(c: &Compare) -> Vec<String> {
     let plain = |a: &[u64]| a.iter().enumerate().map(|(k, &n)| (format!("{k}:"), n)).collect::<Vec<_>>().into_iter();
     let refusals = (1..=13).chain(20..=33).map(|k: usize| (format!("{k}:"), m.numbers[k]));
     counts("refusals", refusals, &mut unmet);
+    let others = [3, 4, 5, 6, 8].map(|k: usize| (format!("{k}:"), m.others[k]));
+    counts("of the 6 in the Rust", others.into_iter().chain([("rooms of 1 to 8:".to_string(), m.small_rooms)]), &mut unmet);
     counts("of the accepted", FEATURES.iter().zip(m.features).map(|(f, n)| (format!("{f}:"), n)), &mut unmet);
     counts("bap", plain(&m.seen.bap), &mut unmet);
     counts("hebap", plain(&m.seen.hebap), &mut unmet);

@@ -24,16 +24,17 @@ use Rattle.derivations.specs.Sets.{strategyOf, startOf as startOf-derivations, 
 use Rattle.derivations.specs.Mantissas.{mantissasIn}
 use Rattle.derivations.specs.Allocating.{putState, freshBy, defaultsBy, allocateIn}
 use Rattle.derivations.specs.Derivations.{endmantsIn, derived}
-use Rattle.annex.specs.Syncinfo.{syncinfo}
+use Rattle.annex.specs.Syncinfo.{syncinfo, bsi-size}
 use Rattle.annex.specs.Bsi.{mixdef3, mixing-metadata, informational-metadata, bsi}
 use Rattle.annex.specs.Audfrm.{flags, coupling, strategies, hybrid, offsets, audfrm}
 use Rattle.annex.specs.Audblk.{dynamics, spx-strategy, spx-coordinates, cpl-strategy, cpl-coordinates, rematrixing, bandwidth, exponents-of-block, parameters, deltas, skip-field, quantized, audblk}
-use Rattle.annex.specs.Annex.{header, audblks, body}
+use Rattle.annex.specs.Annex.{audblks, body}
 use Rattle.annex.specs.Frame.{start, eac3}
-use Rattle.reading.specs.Frame.{framed, sized, parse, finish, tail}
+use Rattle.reading.specs.Frame.{headerBy, framed, sized, parse, finish, tail}
+use Rattle.reading.specs.Room.{cut}
 use Rattle.plan.specs.Plan.{mantissasOf, slotsOf, visitIf, visitOf}
 use Rattle.annex.specs.Edges.{Edge, edges}
 
 pub edges-hold : map (λ (e : Edge). e .gives) edges ≡ map (λ (e : Edge). e .is) edges
-unfolding bitAt bitsAt getOf _>>=_ _>>-_ after skim run cellOf putIn putsIn counting among _⧺_ turns filled item meaning slowdec fastdec slowgain dbpbtab floortab fastgain bndend masktab latab hth baptab hebaptab nfchans bapBits vqBits gaqBits frmexpstr defcplbndstrc defspxbndstrc bandOf pointer rangeOf usedOf readOf requestedOf nextOf decodeOf sizeOf groupsOf startOf firstOf putOf spreadOf laidOf groupsFrom begunOf setOf snroffset sum bndpsd counter deltaed freshState segmentsOf offsetsZero silentOf channelOf leakFor kindOf pointedOf allocatedOf widthOf countedOf conventionalOf activeOf activeIn singlesOf triplesOf gainsOf premantissaOf premantissasOf binOf binsOf ahtOf sumOf eachOf tabOf numblksBy nfchansBy ncplblksBy cplStrategiesBy chStrategiesBy regionsBy blkstrtinfoBy spxRangeBy nspxbndsBy cplRangeBy ncplbndBy nrematbdBy cplBinsBy endmantOf unknownOf unknownIn endmantsBy ahtReadBy strategyOf startOf-derivations endOf exponentsOf mantissasIn putState freshBy defaultsBy allocateIn endmantsIn derived syncinfo mixdef3 mixing-metadata informational-metadata bsi flags coupling strategies hybrid offsets audfrm dynamics spx-strategy spx-coordinates cpl-strategy cpl-coordinates rematrixing bandwidth exponents-of-block parameters deltas skip-field quantized audblk header audblks body start eac3 pointSlots pointSlot pointersOf framed sized parse finish tail mantissasOf slotsOf visitIf visitOf edges
+unfolding bitAt bitsAt getOf _>>=_ _>>-_ after skim run cellOf putIn putsIn counting among _⧺_ turns filled item meaning slowdec fastdec slowgain dbpbtab floortab fastgain bndend masktab latab hth baptab hebaptab nfchans bapBits vqBits gaqBits frmexpstr defcplbndstrc defspxbndstrc bandOf pointer rangeOf usedOf readOf requestedOf nextOf decodeOf sizeOf groupsOf startOf firstOf putOf spreadOf laidOf groupsFrom begunOf setOf snroffset sum bndpsd counter deltaed freshState segmentsOf offsetsZero silentOf channelOf leakFor kindOf pointedOf allocatedOf widthOf countedOf conventionalOf activeOf activeIn singlesOf triplesOf gainsOf premantissaOf premantissasOf binOf binsOf ahtOf sumOf eachOf tabOf numblksBy nfchansBy ncplblksBy cplStrategiesBy chStrategiesBy regionsBy blkstrtinfoBy spxRangeBy nspxbndsBy cplRangeBy ncplbndBy nrematbdBy cplBinsBy endmantOf unknownOf unknownIn endmantsBy ahtReadBy strategyOf startOf-derivations endOf exponentsOf mantissasIn putState freshBy defaultsBy allocateIn endmantsIn derived syncinfo bsi-size mixdef3 mixing-metadata informational-metadata bsi flags coupling strategies hybrid offsets audfrm dynamics spx-strategy spx-coordinates cpl-strategy cpl-coordinates rematrixing bandwidth exponents-of-block parameters deltas skip-field quantized audblk audblks body start eac3 pointSlots pointSlot pointersOf headerBy framed sized parse finish tail cut mantissasOf slotsOf visitIf visitOf edges
 edges-hold = refl

@@ -6,13 +6,14 @@
 -- is looked up by a code: their bounds are among those (and bounds/specs/Bounds). The tail is defined on numbers, without cells.
 use Rattle.cells.specs.Names.{AUDIO-END, BLK, BLOCK, NUMBLKS}
 use Rattle.rows.specs.Syntax.{Here, Block, end, _⨾_, _⧺_, each, put, cell, from, upto, number}
-use Rattle.annex.specs.Syncinfo.{syncinfo}
+use Rattle.annex.specs.Syncinfo.{syncinfo, bsi-size}
 use Rattle.annex.specs.Bsi.{bsi}
 use Rattle.annex.specs.Audfrm.{audfrm}
 use Rattle.annex.specs.Audblk.{audblk}
 
+-- after syncinfo bsid is looked at ahead (specs/Frame)
 unfoldable pub header : Block
-header = syncinfo
+header = syncinfo ⧺ bsi-size
 
 unfoldable pub audblks : Block
 audblks =

@@ -1,7 +1,7 @@
 -- bsi (TS 102 366 E.1.2.2, A/52 E2.2.2), after frmsiz. Each element with its name, index, width in bits, and the cell that keeps its value for what steers the rest.
 use mathlib.Core.List.{[], _∷_}
 use Rattle.names.specs.Names.{acmod, adconvtyp, adconvtyp2, addbsi, addbsie, addbsil, addche, addspchdat1e, addspchdate, audprodi2e, audprodie, blkid, blkmixcfginfo, blkmixcfginfoe, bsid, bsmod, chanmap, chanmape, compr, compr2, compr2e, compre, convsync, copyrightb, dheadphonmod, dialnorm, dialnorm2, dmixmod, dmixscl, drcsrc, dsurexmod, dsurmod, extpgmaux1scl, extpgmaux2scl, extpgmcscl, extpgmlfescl, extpgmlscl, extpgmlsscl, extpgmrscl, extpgmrsscl, extpgmscl, extpgmscle, frmmixcfginfoe, frmsizecod, fscod, infomdate, lfemixlevcod, lfemixlevcode, lfeon, lorocmixlev, lorosurmixlev, ltrtcmixlev, ltrtsurmixlev, mixdata, mixdata2e, mixdata3e, mixdef, mixdeflen, mixlevel, mixlevel2, mixmdate, numblkscod, origbs, paninfo, paninfo2, paninfo2e, paninfoe, panmean, panmean2, pgmscl, pgmscl2, pgmscl2e, pgmscle, premixcmpscl, premixcmpsel, roomtyp, roomtyp2, scale-exists, sourcefscod, spchan1att, spchan2att, spchdat, spchdat1, spchdat2}
-use Rattle.rows.specs.Syntax.{Word, Is, Not, Above, Below, Among, Over, Here, Let, Minus, Block, end, _⨾_, element, span, when, reject, each, put, derive, held, cell, no, none, by, from, upto, number}
+use Rattle.rows.specs.Syntax.{Is, Not, Above, Below, Among, Over, Here, Let, Minus, Block, end, _⨾_, element, span, when, reject, each, put, derive, held, cell, no, none, by, from, upto, number}
 use Rattle.cells.specs.Names.{ACMOD, ADDBSIE, ADDBSIL, ADDCHE, ADDSPCHDAT1E, ADDSPCHDATE, AUDPRODI2E, AUDPRODIE, BLK, BLKID, BLKMIXCFGINFOE, BSID, CHANMAPE, COMPR2E, COMPRE, EXTPGMSCLE, FRMMIXCFGINFOE, FSCOD, INFOMDATE, LFEMIXLEVCODE, LFEON, MIXBITS, MIXDATA2E, MIXDATA3E, MIXDEF, MIXDEFLEN, MIXEND, MIXMDATE, MIXSTART, MIXUSED, NUMBLKS, NUMBLKSCOD, PANINFO2E, PANINFOE, PGMSCL2E, PGMSCLE, SCALE-EXISTS, STRMTYP, WIDTH}
 use Rattle.derivations.specs.Derivations.{Nfchans, Numblks}
 
@@ -139,8 +139,6 @@ bsi =
     ⨾ derive Nfchans
     ⨾ element lfeon none 1 (cell LFEON)
     ⨾ element bsid none 5 (cell BSID)
-    ⨾ reject (Below (cell BSID) 11) 6
-    ⨾ reject (Over (cell BSID) (Word 16)) 6
     ⨾ element dialnorm none 5 no
     ⨾ element compre none 1 (cell COMPRE)
     ⨾ when (Is (cell COMPRE) 1) (element compr none 8 no ⨾ end)

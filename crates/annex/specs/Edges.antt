@@ -3,8 +3,9 @@ use mathlib.Core.List.{List, [], _∷_}
 use Prim.Native.Nat.{ℕ, _*_}
 use lib.IntN.{ℤ, pos, negsuc, _-ℤ_}
 use lib.ListN.{length, replicate}
-use Rattle.reading.specs.Run.{Result, accepted, refused, run}
+use Rattle.reading.specs.Run.{Result, accepted, refused, Outcome, run}
 use Rattle.reading.specs.Frame.{parse}
+use Rattle.reading.specs.Room.{cut}
 use Rattle.tables.specs.Bands.{bandOf}
 use Rattle.alloc.specs.Allocation.{snroffset}
 use Rattle.slots.specs.Held.{bins}
@@ -28,9 +29,15 @@ abbrev pub numberOf : Result State → ℤ
 numberOf (accepted st) = pos 0
 numberOf (refused n) = pos n
 
--- the number, the place and the count of records for a slice
+-- the number, the place and the count of records for a slice, and with room for n records
+abbrev pub three : Outcome State → List ℤ
+three o = numberOf (o .result) ∷ pos (o .place) ∷ pos (length (o .records)) ∷ []
+
 abbrev pub answer : List ℕ → List ℤ
-answer s = let o = parse eac3 s in numberOf (o .result) ∷ pos (o .place) ∷ pos (length (o .records)) ∷ []
+answer s = three (parse eac3 s)
+
+abbrev pub answer-with : ℕ → List ℕ → List ℤ
+answer-with n s = three (cut n (parse eac3 s))
 
 -- a part of a block, read from some bytes with these cells: the number, and then what some cells hold
 abbrev pub heldAfter : Result State → (List ℕ → List ℤ) → List ℤ
@@ -66,11 +73,23 @@ shortest = 0x0B ∷ 0x77 ∷ 0x70 ∷ 0x09 ∷ 0x42 ∷ 0x6D ∷ 0xC0 ∷ 0x04 �
 unfoldable pub edges : List Edge
 edges =
     answer [] must-be (pos 1 ∷ pos 0 ∷ pos 0 ∷ [])
-    ∷ answer (0x0B ∷ 0x77 ∷ 0xC0 ∷ 0 ∷ 0 ∷ 0 ∷ []) must-be (pos 3 ∷ pos 32 ∷ pos 4 ∷ [])
-    ∷ answer (0x0B ∷ 0x77 ∷ 0 ∷ 0 ∷ 0 ∷ 0 ∷ []) must-be (pos 8 ∷ pos 32 ∷ pos 4 ∷ [])
-    ∷ answer (0x0B ∷ 0x77 ∷ 0 ∷ 3 ∷ 0xC0 ∷ 0 ∷ []) must-be (pos 4 ∷ pos 32 ∷ pos 4 ∷ [])
-    ∷ answer (0x0B ∷ 0x77 ∷ 0 ∷ 2 ∷ 0xC0 ∷ 0 ∷ []) must-be (pos 5 ∷ pos 34 ∷ pos 5 ∷ [])
+    ∷ answer (0x0B ∷ 0x77 ∷ 0xC0 ∷ 0 ∷ 0 ∷ 0x80 ∷ []) must-be (pos 3 ∷ pos 32 ∷ pos 4 ∷ [])
+    ∷ answer (0x0B ∷ 0x77 ∷ 0 ∷ 0 ∷ 0 ∷ 0x80 ∷ []) must-be (pos 8 ∷ pos 32 ∷ pos 4 ∷ [])
+    ∷ answer (0x0B ∷ 0x77 ∷ 0 ∷ 3 ∷ 0xC0 ∷ 0x80 ∷ []) must-be (pos 4 ∷ pos 32 ∷ pos 4 ∷ [])
+    ∷ answer (0x0B ∷ 0x77 ∷ 0 ∷ 2 ∷ 0xC0 ∷ 0x80 ∷ []) must-be (pos 5 ∷ pos 34 ∷ pos 5 ∷ [])
     ∷ answer (0x0B ∷ 0x77 ∷ 0 ∷ 2 ∷ 0 ∷ 0x80 ∷ []) must-be (pos 8 ∷ pos 45 ∷ pos 9 ∷ [])
+    -- bsid 0, 10, 11, 17; and bsid 8 where strmtyp is 3, in a frame of 2 bytes, in one of 8 and one of 6 with fscod 3, behind another sync word
+    ∷ answer (0x0B ∷ 0x77 ∷ 0 ∷ 2 ∷ 0 ∷ 0 ∷ []) must-be (pos 6 ∷ pos 45 ∷ pos 1 ∷ [])
+    ∷ answer (0x0B ∷ 0x77 ∷ 0 ∷ 2 ∷ 0 ∷ 0x50 ∷ []) must-be (pos 6 ∷ pos 45 ∷ pos 1 ∷ [])
+    ∷ answer (0x0B ∷ 0x77 ∷ 0 ∷ 2 ∷ 0 ∷ 0x58 ∷ []) must-be (pos 8 ∷ pos 45 ∷ pos 9 ∷ [])
+    ∷ answer (0x0B ∷ 0x77 ∷ 0 ∷ 2 ∷ 0 ∷ 0x88 ∷ []) must-be (pos 6 ∷ pos 45 ∷ pos 1 ∷ [])
+    ∷ answer (0x0B ∷ 0x77 ∷ 0xC0 ∷ 0 ∷ 0 ∷ 0x40 ∷ []) must-be (pos 6 ∷ pos 45 ∷ pos 1 ∷ [])
+    ∷ answer (0x0B ∷ 0x77 ∷ 0 ∷ 0 ∷ 0 ∷ 0x40 ∷ []) must-be (pos 6 ∷ pos 45 ∷ pos 1 ∷ [])
+    ∷ answer (0x0B ∷ 0x77 ∷ 0 ∷ 3 ∷ 0xC0 ∷ 0x40 ∷ []) must-be (pos 6 ∷ pos 45 ∷ pos 1 ∷ [])
+    ∷ answer (0x0B ∷ 0x77 ∷ 0 ∷ 2 ∷ 0xC0 ∷ 0x40 ∷ []) must-be (pos 6 ∷ pos 45 ∷ pos 1 ∷ [])
+    ∷ answer (0x0B ∷ 0x76 ∷ 0 ∷ 2 ∷ 0 ∷ 0x40 ∷ []) must-be (pos 2 ∷ pos 16 ∷ pos 1 ∷ [])
+    ∷ answer-with 1 (0x0B ∷ 0x77 ∷ 0 ∷ 2 ∷ 0 ∷ 0x40 ∷ []) must-be (pos 6 ∷ pos 45 ∷ pos 1 ∷ [])
+    ∷ answer-with 0 (0x0B ∷ 0x77 ∷ 0 ∷ 2 ∷ 0 ∷ 0x40 ∷ []) must-be (pos 33 ∷ pos 0 ∷ pos 0 ∷ [])
     ∷ answer shortest must-be (pos 0 ∷ pos 160 ∷ pos 45 ∷ [])
     ∷ part (cpl-strategy ⧺ bandwidth) coupled (0 ∷ []) coupling must-be (pos 0 ∷ negsuc 1 ∷ pos 1 ∷ pos 37 ∷ pos 49 ∷ [])
     ∷ part cpl-strategy coupled (8 ∷ []) coupling must-be (pos 22 ∷ [])

@@ -4,12 +4,17 @@ use Rattle.names.specs.Names.{frmsiz, strmtyp, substreamid, syncword}
 use Rattle.cells.specs.Names.{FRMSIZ, STRMTYP, SUBSTREAMID, SYNCWORD}
 use Rattle.rows.specs.Syntax.{Word, Is, Differs, Block, end, _⨾_, element, reject, cell, none}
 
--- the sync word is 0x0B77; strmtyp 3 is reserved
+-- the sync word is 0x0B77
 unfoldable pub syncinfo : Block
 syncinfo =
     element syncword none 16 (cell SYNCWORD)
     ⨾ reject (Differs (cell SYNCWORD) (Word 0x0B77)) 2
-    ⨾ element strmtyp none 2 (cell STRMTYP)
+    ⨾ end
+
+-- bsi up to frmsiz; strmtyp 3 is reserved
+unfoldable pub bsi-size : Block
+bsi-size =
+    element strmtyp none 2 (cell STRMTYP)
     ⨾ element substreamid none 3 (cell SUBSTREAMID)
     ⨾ element frmsiz none 11 (cell FRMSIZ)
     ⨾ reject (Is (cell STRMTYP) 3) 3

@@ -10,10 +10,10 @@ abbrev pub afterHeader : ℕ
 afterHeader = 6
 
 abbrev pub afterBody : ℕ
-afterBody = 496
+afterBody = 494
 
 abbrev pub afterTail : ℕ
-afterTail = 512
+afterTail = 510
 
 pub record Annexed (t : List ℕ) : Type 0 where
   pub headed : Stands t header 0 afterHeader

@@ -5,7 +5,7 @@ ghost use Rattle.annex.specs.Table.{Annexed};
 use table::TABLE;
 
 // The rows of the header, of the body and of the tail.
-pub fn annex() -> [u64; 512]
+pub fn annex() -> [u64; 510]
     ensures { λ r. ⌜ Annexed r ⌝ }
 {
     TABLE

@@ -1,11 +1,11 @@
 // The rows, each with its item beside it, written from the pages of specs/ by tools/table.py. The checker computes that they are what the pages say.
-pub const TABLE: [u64; 512] = [
+pub const TABLE: [u64; 510] = [
     4263008, // syncinfo: element syncword none 16 (cell SYNCWORD)
     1613533322153997, // syncinfo: reject (Differs (cell SYNCWORD) (Word 0x0B77)) 2
-    4336704, // syncinfo: element strmtyp none 2 (cell STRMTYP)
-    4471888, // syncinfo: element substreamid none 3 (cell SUBSTREAMID)
-    4634464, // syncinfo: element frmsiz none 11 (cell FRMSIZ)
-    54043195595555355, // syncinfo: reject (Is (cell STRMTYP) 3) 3
+    4336704, // bsi-size: element strmtyp none 2 (cell STRMTYP)
+    4471888, // bsi-size: element substreamid none 3 (cell SUBSTREAMID)
+    4634464, // bsi-size: element frmsiz none 11 (cell FRMSIZ)
+    54043195595555355, // bsi-size: reject (Is (cell STRMTYP) 3) 3
     4728704, // bsi: element fscod none 2 (cell FSCOD)
     90071992614519371, // bsi: reject (Is (cell FSCOD) 3) 5
     4860224, // bsi: element numblkscod none 2 (cell NUMBLKSCOD)
@@ -14,8 +14,6 @@ pub const TABLE: [u64; 512] = [
     76, // bsi: derive Nfchans
     5380160, // bsi: element lfeon none 1 (cell LFEON)
     5525904, // bsi: element bsid none 5 (cell BSID)
-    108086408228373163, // bsi: reject (Below (cell BSID) 11) 6
-    8796118193453, // bsi: reject (Over (cell BSID) (Word 16)) 6
     21760, // bsi: element dialnorm none 5 no
     5640816, // bsi: element compre none 1 (cell COMPRE)
     18014398526259896, // bsi: when (Is (cell COMPRE) 1)

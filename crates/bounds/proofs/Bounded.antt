@@ -3,15 +3,17 @@ use mathlib.Core.Path.{_≡_, refl}
 use mathlib.Core.Bool.{Bool, true}
 use mathlib.Core.List.{List, []}
 use Prim.Native.Nat.{ℕ}
-use Rattle.reading.specs.Run.{Entry, accepted, run}
+use Rattle.reading.specs.Run.{Entry, accepted}
+use Rattle.reading.specs.Frame.{headed}
 use Rattle.cells.specs.Cells.{State}
-use Rattle.rows.specs.Syntax.{Item, Block, _⧺_, meaning}
-use Rattle.annex.specs.Syncinfo.{syncinfo}
+use Rattle.rows.specs.Syntax.{Item, Block, _⧺_}
+use Rattle.annex.specs.Syncinfo.{syncinfo, bsi-size}
 use Rattle.annex.specs.Bsi.{mixdef3, mixing-metadata, informational-metadata, bsi}
 use Rattle.annex.specs.Audfrm.{flags, coupling, strategies, hybrid, offsets, audfrm}
 use Rattle.annex.specs.Audblk.{dynamics, spx-strategy, spx-coordinates, cpl-strategy, cpl-coordinates, rematrixing, bandwidth, exponents-of-block, parameters, deltas, skip-field, quantized, audblk}
 use Rattle.annex.specs.Annex.{header, audblks, body}
-use Rattle.annex.specs.Frame.{start}
+use Rattle.annex.specs.Frame.{start, eac3}
+use Rattle.annex.proofs.Header.{headed-gives}
 use Rattle.bounds.specs.Along.{Along}
 use Rattle.bounds.specs.Bounds.{bounds, mostIn, most, Within, Bounded, BodyBounded}
 use Rattle.bounds.proofs.Bounds.{Test, allow, allowEach, may, upTo, sumTo, forget, spread, mostOver, valueAt, leastOf, greatestOf, heldLeast, heldMost, none-within}
@@ -36,8 +38,12 @@ every i = true
 everything : Test
 everything j a z = true
 
+opening-fits : fitting every everything syncinfo ≡ true
+unfolding fitting every everything syncinfo
+opening-fits = refl
+
 header-fits : fitting every everything header ≡ true
-unfolding fitting every everything header syncinfo
+unfolding fitting every everything header syncinfo bsi-size _⧺_
 header-fits = refl
 
 body-fits : fitting every everything body ≡ true
@@ -54,14 +60,18 @@ pub start-within : Within (start .cells)
 unfolding start
 start-within = none-within
 
+-- the header, and its opening alone
+pub opening-along : (s : List ℕ) → Along s 48 Bounded syncinfo start 0 []
+opening-along s = bounded-by s 48 syncinfo opening-fits start 0 [] start-within .along
+
 header-walks : (s : List ℕ) → Walks s 48 Bounded header start 0 [] (λ a q fs. Within (a .cells))
 header-walks s = bounded-by s 48 header header-fits start 0 [] start-within
 
 pub header-along : (s : List ℕ) → Along s 48 Bounded header start 0 []
 header-along s = header-walks s .along
 
-pub header-within : (s : List ℕ) (h : State) → run (meaning header start) s 0 48 .result ≡ accepted h → Within (h .cells)
-header-within s h e = header-walks s .ends h e
+pub header-within : (s : List ℕ) (h : State) → headed eac3 s .result ≡ accepted h → Within (h .cells)
+header-within s h e = header-walks s .ends h (headed-gives s h e)
 
 pub body-bounded : BodyBounded
 body-bounded s h e = bounded-by s _ body body-fits h _ _ (header-within s h e) .along

@@ -6,12 +6,13 @@ use mathlib.Core.Logic.{_⊎_}
 use Prim.Native.Nat.{ℕ, _+_, _*_, _%_, _≤_}
 use lib.Dec.{leb}
 use lib.ListN.{length}
-use Rattle.reading.specs.Run.{accepted, run}
+use Rattle.reading.specs.Run.{accepted}
+use Rattle.reading.specs.Frame.{headed}
 use Rattle.cells.specs.Cells.{State, cellOf}
 use Rattle.cells.specs.Names.{ABSEXP, ACMOD, ADDBSIE, ADDBSIL, AHT-READ, AHTE, AHTINU, BAI-SENT, BAIE, BLK, BLKFSNROFFST, BLKSTRTINFOE, BLOCK, BND, BSID, CH, CHBWCOD, CHBWSENT, CHEXPSTR, CHINSPX, CHINTRANSPROC, COMPRE, CONVEXPSTRE, CONVSNROFFSTE, CPL-SUBND-END, CPLBEGF, CPLBNDSTRC, CPLBNDSTRCE, CPLCOE, CPLEND, CPLENDF, CPLEXPSTR, CPLFLEAK, CPLINUS, CPLSLEAK, CPLSTRE, CPLSTRT, CSNROFFST, DBPBCOD, DELTBA, DELTBAE, DELTBAIE, DELTLEN, DELTNSEG, DELTOFFST, DYNRNGE, ENDMANT, EXPSTRE, EXTPGMSCLE, FGAINCOD, FGAINCODE, FIRSTCPLCOS, FIRSTSPXCOS, FLOORCOD, FRMCHEXPSTR, FRMCPLEXPSTR, FRMFSNROFFST, FRMSIZ, FSCOD, FSNROFFST, HELDEND, HELDSTRT, LFEEXPSTR, LFEON, MIXBITS, MIXDATA2E, MIXDEF, MIXDEFLEN, NCPLBLKS, NCPLBND, NCPLREGS, NCPLSUBND, NFCHANS, NLFEREGS, NREMATBD, NSEG, NSPXBNDS, NUMBLKS, NUMBLKSCOD, PHSFLGE, PHSFLGINU, REMATSTR, SDCYCOD, SEG, SKIPL, SKIPLE, SLOT, SNROFFSTE, SNROFFSTSTR, SPX-BEGIN, SPX-END, SPXATTENE, SPXBEGF, SPXBNDSTRC, SPXBNDSTRCE, SPXENDF, STRMTYP, SUB, SUBSTREAMID, TAGS, TRANSPROCE, WIDTH}
-use Rattle.rows.specs.Syntax.{Item, meaning}
-use Rattle.annex.specs.Annex.{header, body}
-use Rattle.annex.specs.Frame.{start, bytesOf}
+use Rattle.rows.specs.Syntax.{Item}
+use Rattle.annex.specs.Annex.{body}
+use Rattle.annex.specs.Frame.{bytesOf, eac3}
 use Rattle.bounds.specs.Along.{Point, Along}
 
 -- the cells from one to another, and the most that they hold
@@ -60,5 +61,5 @@ Bounded i st p es = Within (st .cells)
 -- whatever the buffer, wherever the reading of its body comes
 abbrev pub BodyBounded : Type 0
 BodyBounded =
-    (s : List ℕ) (h : State) → run (meaning header start) s 0 48 .result ≡ accepted h
-    → Along s (8 * bytesOf h) Bounded body h (run (meaning header start) s 0 48 .place) (run (meaning header start) s 0 48 .records)
+    (s : List ℕ) (h : State) → headed eac3 s .result ≡ accepted h
+    → Along s (8 * bytesOf h) Bounded body h (headed eac3 s .place) (headed eac3 s .records)

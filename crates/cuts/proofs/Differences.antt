@@ -14,7 +14,7 @@ use Rattle.cells.specs.Names.{BLK, CPL-SUBND-END, CPLBEGF, MIXBITS, MIXEND, MIX
 use Rattle.sideinfo.specs.Frames.{numblksBy}
 use Rattle.derivations.specs.Derivations.{Numblks, Blkstrtinfo, Nspxbnds, Ncplbnd, derived}
 use Rattle.rows.specs.Syntax.{Value, Here, Let, Less, Plus, Minus, Item, Block, element, elements, span, mantissas, exponents, when, each, reject, reject-at, put, fill, derive, _⨾_, _⧺_, cell, meaning}
-use Rattle.annex.specs.Syncinfo.{syncinfo}
+use Rattle.annex.specs.Syncinfo.{syncinfo, bsi-size}
 use Rattle.annex.specs.Bsi.{mixdef3, mixing-metadata, informational-metadata, bsi}
 use Rattle.annex.specs.Audfrm.{flags, coupling, strategies, hybrid, offsets, audfrm}
 use Rattle.annex.specs.Audblk.{dynamics, spx-strategy, spx-coordinates, cpl-strategy, cpl-coordinates, rematrixing, bandwidth, exponents-of-block, parameters, deltas, skip-field, quantized, audblk}
@@ -298,7 +298,7 @@ module _ (s : List ℕ) (l : ℕ) where
   bsi-rest a q fs w =
       walks-next s l Differences _ _ a q fs {M = Still} (nothing-taken _ a q fs refl w)
       (walked-derive s l Differences Numblks a q fs (λ _. record { within = derived-changes any Numblks a w may-numblks .within; blocks = rw (numblks-are a) (some-blocks (a .cells) w) }))
-      (λ b r gs k. skip [] 12 _ refl b r gs k
+      (λ b r gs k. skip [] 10 _ refl b r gs k
       (λ c u hs o. under _ _ c u hs refl (nothing-taken _ c u hs refl (o .kept .within)) (walked-when s l Differences _ _ c u hs (λ _. metadata-walk c u hs (o .kept)) (λ _. o .kept))))
 
   bsi-walk : (st : State) (p : ℕ) (es : List Entry) → Within (st .cells) → Walks s l Differences bsi st p es Still
@@ -439,7 +439,7 @@ module _ (s : List ℕ) (l : ℕ) where
 
   -- the header takes nothing off
   header-quiet : fitting takesNothing any header ≡ true
-  unfolding header syncinfo quiet any
+  unfolding header syncinfo bsi-size _⧺_ quiet any
   header-quiet = refl
 
   pub header-differs : (st : State) (p : ℕ) (es : List Entry) → Within (st .cells) → Along s l Differences header st p es

@@ -7,13 +7,14 @@ use native.Mathlib.Omega.{arith}
 use lib.Dec.{leb, ltb}
 use borrow.Author.Tests.{leb-true, ltb-true}
 use Rattle.reading.specs.Run.{Entry}
+use Rattle.reading.specs.Frame.{headerBy, seen}
 use Rattle.cells.specs.Cells.{State, Addr, Sum, cellOf, heldOf}
 use Rattle.cells.specs.Names.{ABSEXP, ACMOD, BLOCK, CH, CPL-SUBND-END, CPLBEGF, CPLEND, CPLENDF, CPLFLEAK, CPLSLEAK, CSNROFFST, DBPBCOD, DELTBA, DELTLEN, DELTNSEG, DELTOFFST, FDCYCOD, FGAINCOD, FLOORCOD, FRMCHEXPSTR, FRMCPLEXPSTR, FRMSIZ, FSNROFFST, NFCHANS, NUMBLKS, NUMBLKSCOD, SDCYCOD, SGAINCOD, SPX-BEGIN, SPX-END, SPXBEGF, SPXENDF}
 use Rattle.derivations.specs.Derivations.{Blkstrtinfo, Nspxbnds, Ncplbnd, Allocation}
-use Rattle.rows.specs.Syntax.{Number, Cell, Word, Cond, Is, Not, Above, Below, Among, Differs, Over, Under, AtLeast, Value, Here, Let, Less, Plus, Minus, Count, Fixed, Held, Item, Block, element, elements, span, mantissas, exponents, when, each, reject, reject-at, put, fill, derive, none, meaning}
-use Rattle.annex.specs.Syncinfo.{syncinfo}
+use Rattle.rows.specs.Syntax.{Number, Cell, Word, Cond, Is, Not, Above, Below, Among, Differs, Over, Under, AtLeast, Value, Here, Let, Less, Plus, Minus, Count, Fixed, Held, Item, Block, element, elements, span, mantissas, exponents, when, each, reject, reject-at, put, fill, derive, none}
+use Rattle.annex.specs.Syncinfo.{syncinfo, bsi-size}
 use Rattle.annex.specs.Annex.{header, body}
-use Rattle.annex.specs.Frame.{start, bytesOf}
+use Rattle.annex.specs.Frame.{start, bytesOf, eac3}
 use Rattle.bounds.specs.Along.{Point, Along}
 use Rattle.bounds.specs.Bounds.{bounds, mostIn, most, Within}
 use Rattle.unmet.specs.Unmet.{EndsFit, Ready, Unmet}
@@ -198,7 +199,7 @@ in-range (derive k) st p es h w u f =
 
 -- the test of the pages
 all-in-range : (fitting inRange everything header ≡ true) × (fitting inRange everything body ≡ true)
-unfolding fitting inRange part place number condition value count everything header syncinfo pages
+unfolding fitting inRange part place number condition value count everything header syncinfo bsi-size pages
 all-in-range = (refl, refl)
 
 module _ (s : List ℕ) (l : ℕ) where
@@ -216,6 +217,6 @@ nothing-clamped = record {
   in-body = λ s h e.
       let w = header-within s h e in
       let z : 8 * bytesOf h ≤ farthest = omega (arith, w .below FRMSIZ, frmsiz-most) in
-      let r = run-reaches (meaning header start) s 0 48 .reaches h e in
+      let r = run-reaches (headerBy eac3 (seen eac3 s)) s 0 48 .reaches h e in
       unclamped-by s (8 * bytesOf h) z body (all-in-range .1) h _ _ (omega arith) w (unmet s h e) (body-differs s (8 * bytesOf h) h _ _ w);
 }

@@ -10,6 +10,7 @@ use lib.Dec.{eqb, leb, ltb}
 use lib.ListN.{length, getD}
 use borrow.Author.Tests.{leb-true, not-false}
 use Rattle.reading.specs.Run.{Entry, accepted, skim}
+use Rattle.reading.specs.Frame.{headerBy, seen}
 use Rattle.cells.specs.Cells.{State, Addr, cellOf, putIn, stored, placeOf, heldOf}
 use Rattle.cells.specs.Names.{AHT-READ, AHT-TAGS, AHTINU, BLK, CPL-BLOCKS, CPL-SUBND-END, CPLBEGF, CPLBNDSTRC, CPLINUS, FRMSIZ, LFEON, NUMBLKS, SLOT-BITS, SPX-BEGIN, SPX-BLOCKS, SPX-END, SPXBNDSTRC, TAGS}
 use Rattle.sideinfo.specs.Steps.{eachOf}
@@ -17,15 +18,16 @@ use Rattle.sideinfo.specs.Frames.{holding, powersBelow}
 use Rattle.sideinfo.specs.Blocks.{flagOf, coupledIn, channelsOf, markedIn, readOf, slotBitsOf, ahtReadBy}
 use Rattle.derivations.specs.Mantissas.{mantissasIn}
 use Rattle.derivations.specs.Derivations.{AhtRead, derived}
-use Rattle.rows.specs.Syntax.{Count, Fixed, Held, Value, Here, Let, Less, Plus, Minus, Item, Block, element, elements, span, mantissas, exponents, when, each, reject, reject-at, put, fill, derive, _⧺_, cell, amountOf, meaning}
-use Rattle.annex.specs.Syncinfo.{syncinfo}
+use Rattle.rows.specs.Syntax.{Count, Fixed, Held, Value, Here, Let, Less, Plus, Minus, Item, Block, element, elements, span, mantissas, exponents, when, each, reject, reject-at, put, fill, derive, _⧺_, cell, amountOf}
+use Rattle.annex.specs.Syncinfo.{syncinfo, bsi-size}
 use Rattle.annex.specs.Bsi.{bsi}
 use Rattle.annex.specs.Audfrm.{audfrm}
 use Rattle.annex.specs.Audblk.{dynamics, spx-strategy, spx-coordinates, cpl-strategy, cpl-coordinates, rematrixing, bandwidth, exponents-of-block, parameters, deltas, skip-field, quantized, audblk}
 use Rattle.annex.specs.Annex.{header, audblks, body}
 use Rattle.cells.proofs.Cells.{cell-none}
 use Rattle.sideinfo.proofs.StepLaws.{each-within}
-use Rattle.annex.specs.Frame.{start, bytesOf}
+use Rattle.annex.specs.Frame.{start, bytesOf, eac3}
+use Rattle.annex.proofs.Header.{headed-gives}
 use Rattle.bounds.specs.Along.{Point, Along}
 use Rattle.bounds.specs.Bounds.{tagsMost, bounds, mostIn, most, Within}
 use Rattle.outcomes.specs.Outcomes.{farthest}
@@ -371,11 +373,11 @@ module _ (s : List ℕ) (l : ℕ) where
 
 -- together
 small-all : (fitting small everything header ≡ true) × (fitting small everything body ≡ true)
-unfolding fitting small counts-to everything syncinfo pages header
+unfolding fitting small counts-to everything syncinfo bsi-size pages header
 small-all = (refl, refl)
 
 quiet-header : quiet header ≡ true
-unfolding quiet header syncinfo
+unfolding quiet header syncinfo bsi-size _⧺_
 quiet-header = refl
 
 start-counts : Tally 0 0 0 (start .cells)
@@ -395,8 +397,8 @@ pub nothing-wraps : NothingWraps
 nothing-wraps = record {
   in-header = λ s. unwraps s 48 (omega arith) header (small-all .0) start 0 [] (start-counts .within) (omega arith) (quiet-walk s 48 header quiet-header 0 0 0 start 0 [] start-counts .along);
   in-body = λ s h e.
-      let k : Tally 0 0 0 (h .cells) = quiet-walk s 48 header quiet-header 0 0 0 start 0 [] start-counts .ends h e in
+      let k : Tally 0 0 0 (h .cells) = quiet-walk s 48 header quiet-header 0 0 0 start 0 [] start-counts .ends h (headed-gives s h e) in
       let z : 8 * bytesOf h ≤ farthest = omega (arith, k .within .below FRMSIZ, frmsiz-most) in
-      let r = run-reaches (meaning header start) s 0 48 .reaches h e in
+      let r = run-reaches (headerBy eac3 (seen eac3 s)) s 0 48 .reaches h e in
       unwraps s (8 * bytesOf h) z body (small-all .1) h _ _ (k .within) (omega arith) (body-walk s (8 * bytesOf h) h _ _ k .along);
 }

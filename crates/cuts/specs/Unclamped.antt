@@ -3,13 +3,14 @@
 use mathlib.Core.Path.{_≡_}
 use mathlib.Core.List.{List, []}
 use Prim.Native.Nat.{ℕ, _+_, _*_, _≤_, _<_}
-use Rattle.reading.specs.Run.{accepted, run}
+use Rattle.reading.specs.Run.{accepted}
+use Rattle.reading.specs.Frame.{headed}
 use Rattle.cells.specs.Cells.{State, Addr, Sum, cellOf, placeOf, heldOf, sumOf}
 use Rattle.cells.specs.Names.{ABSEXP, ACMOD, BLOCK, CH, CPL-SUBND-END, CPLBEGF, CPLEND, CPLENDF, CPLFLEAK, CPLINU, CPLSLEAK, CPLSTRT, CSNROFFST, DBPBCOD, DELTBA, DELTLEN, DELTNSEG, DELTOFFST, ENDMANT, FDCYCOD, FGAINCOD, FLOORCOD, FRMCHEXPSTR, FRMCPLEXPSTR, FRMSIZ, FSCOD, FSNROFFST, NFCHANS, NUMBLKS, NUMBLKSCOD, SDCYCOD, SGAINCOD, SPX-BEGIN, SPX-END, SPXBEGF, SPXENDF}
 use Rattle.derivations.specs.Derivations.{Numblks, Nfchans, CplStrategies, ChStrategies, Blkstrtinfo, SpxRange, Nspxbnds, CplRange, Ncplbnd, Endmants, Allocation, AhtRead}
-use Rattle.rows.specs.Syntax.{Number, Cell, Word, Cond, Is, Not, Above, Below, Among, Differs, Over, Under, AtLeast, Value, Here, Let, Less, Plus, Minus, Count, Fixed, Held, Item, element, elements, span, mantissas, exponents, when, each, reject, reject-at, put, fill, derive, none, meaning}
+use Rattle.rows.specs.Syntax.{Number, Cell, Word, Cond, Is, Not, Above, Below, Among, Differs, Over, Under, AtLeast, Value, Here, Let, Less, Plus, Minus, Count, Fixed, Held, Item, element, elements, span, mantissas, exponents, when, each, reject, reject-at, put, fill, derive, none}
 use Rattle.annex.specs.Annex.{header, body}
-use Rattle.annex.specs.Frame.{start, bytesOf}
+use Rattle.annex.specs.Frame.{start, bytesOf, eac3}
 use Rattle.bounds.specs.Along.{Point, Along}
 
 -- the parts of a record, which are cut to 7 and 15 bits: its block and its index, one more than they are
@@ -97,5 +98,5 @@ Unclamped (derive k) st p es = DerivationFits k (st .cells)
 -- whatever the buffer, wherever the reading of its header and its body comes
 pub record NothingClamped : Type 0 where
   pub in-header : (s : List ℕ) → Along s 48 Unclamped header start 0 []
-  pub in-body : (s : List ℕ) (h : State) → run (meaning header start) s 0 48 .result ≡ accepted h
-      → Along s (8 * bytesOf h) Unclamped body h (run (meaning header start) s 0 48 .place) (run (meaning header start) s 0 48 .records)
+  pub in-body : (s : List ℕ) (h : State) → headed eac3 s .result ≡ accepted h
+      → Along s (8 * bytesOf h) Unclamped body h (headed eac3 s .place) (headed eac3 s .records)

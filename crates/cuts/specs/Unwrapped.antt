@@ -4,16 +4,17 @@ use mathlib.Core.Path.{_≡_}
 use mathlib.Core.List.{List, []}
 use Prim.Native.Nat.{ℕ, _+_, _*_, _-_, _^_, _≤_, _<_}
 use lib.ListN.{getD}
-use Rattle.reading.specs.Run.{accepted, skim, run}
+use Rattle.reading.specs.Run.{accepted, skim}
+use Rattle.reading.specs.Frame.{headed}
 use Rattle.cells.specs.Cells.{State, cellOf, heldOf}
 use Rattle.cells.specs.Names.{AHT-TAGS, CHBWCOD, CPL-SUBND-END, CPLBEGF, CPLBNDSTRC, CPLENDF, CPLINUS, FRMSIZ, NUMBLKS, NUMBLKSCOD, SPX-BEGIN, SPX-END, SPXBEGF, SPXBNDSTRC, SPXENDF, TAGS}
 use Rattle.sideinfo.specs.Frames.{holding, powersBelow}
 use Rattle.sideinfo.specs.Blocks.{bandsOf}
 use Rattle.derivations.specs.Derivations.{Numblks, Ncplblks, Blkstrtinfo, SpxRange, Nspxbnds, CplRange, Ncplbnd, Endmants, AhtRead}
 use Rattle.derivations.specs.Mantissas.{mantissasIn}
-use Rattle.rows.specs.Syntax.{Item, element, elements, span, mantissas, exponents, when, each, reject, reject-at, put, fill, derive, countOf, amountOf, meaning}
+use Rattle.rows.specs.Syntax.{Item, element, elements, span, mantissas, exponents, when, each, reject, reject-at, put, fill, derive, countOf, amountOf}
 use Rattle.annex.specs.Annex.{header, body}
-use Rattle.annex.specs.Frame.{start, bytesOf}
+use Rattle.annex.specs.Frame.{start, bytesOf, eac3}
 use Rattle.bounds.specs.Along.{Point, Along}
 
 -- a cell has 16 bits
@@ -51,5 +52,5 @@ Unwrapped s l (derive k) st p es = PutsFit k (st .cells)
 -- whatever the buffer, wherever the reading of its header and its body comes
 pub record NothingWraps : Type 0 where
   pub in-header : (s : List ℕ) → Along s 48 (Unwrapped s 48) header start 0 []
-  pub in-body : (s : List ℕ) (h : State) → run (meaning header start) s 0 48 .result ≡ accepted h
-      → Along s (8 * bytesOf h) (Unwrapped s (8 * bytesOf h)) body h (run (meaning header start) s 0 48 .place) (run (meaning header start) s 0 48 .records)
+  pub in-body : (s : List ℕ) (h : State) → headed eac3 s .result ≡ accepted h
+      → Along s (8 * bytesOf h) (Unwrapped s (8 * bytesOf h)) body h (headed eac3 s .place) (headed eac3 s .records)

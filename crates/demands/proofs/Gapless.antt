@@ -11,7 +11,7 @@ use borrow.Author.Tests.{leb-true}
 use Rattle.reading.specs.Run.{Field, Entry, end, Result, accepted, refused, Outcome, out, andThen, after, run}
 use Rattle.reading.specs.Room.{size, cutAt, cut}
 use Rattle.reading.specs.Records.{Tiles, Whole, Tiled}
-use Rattle.reading.specs.Frame.{Format, Announces, auxdataeAt, tail, finish, framed, sized, parse}
+use Rattle.reading.specs.Frame.{Format, headerBy, seen, headed, Announces, auxdataeAt, tail, finish, framed, sized, parse}
 use Rattle.bits.specs.Bits.{bitsAt}
 use Rattle.reading.specs.CommonReading.{Holds}
 use Rattle.reading.proofs.Laws.{tiled, tiled-after}
@@ -72,7 +72,7 @@ module _ {H A : Type 0} (F : Format H A) where
 
   pub parse-tiled : (b : List ℕ) → Tiled 0 (parse F b)
   unfolding parse
-  parse-tiled b = cond-tiled (leb 6 (length b)) 0 1 _ (tiled-after (run (F .header) b 0 48) _ (sized-tiled b) (tiled (F .header) b 0 48))
+  parse-tiled b = cond-tiled (leb 6 (length b)) 0 1 _ (tiled-after (headed F b) _ (sized-tiled b) (tiled (headerBy F (seen F b)) b 0 48))
 
   -- an accepted buffer holds its frame
   accepted-holds : Announces F → (b : List ℕ) (c : A) → parse F b .result ≡ accepted c → Holds F b
@@ -80,7 +80,7 @@ module _ {H A : Type 0} (F : Format H A) where
   accepted-holds n b c = six (leb 6 (length b)) refl
     where
       O : Outcome H
-      O = run (F .header) b 0 48
+      O = headed F b
 
       whole-by : (t : Bool) (h : H) → leb (F .bytes h) (length b) ≡ t → cond t (framed F b h (O .place)) (out (refused 4) (O .place) []) .result ≡ accepted c → F .bytes h ≤ length b
       whole-by true h q e = leb-true _ _ q

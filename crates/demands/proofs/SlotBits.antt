@@ -14,7 +14,7 @@ use Rattle.bits.specs.Bits.{bitsAt}
 use Rattle.reading.specs.Tree.{Tree, done, refuse, ahead, here, read, span, scan}
 use Rattle.reading.specs.Run.{Field, Entry, element, region, Result, accepted, refused, Outcome, out, cons, andThen, after, skim, run}
 use Rattle.reading.specs.Room.{size, cut}
-use Rattle.reading.specs.Frame.{TailNames, plain, auxdataeAt, ending, tail, finish, framed, sized, parse}
+use Rattle.reading.specs.Frame.{TailNames, plain, headed, auxdataeAt, ending, tail, finish, framed, sized, parse}
 use Rattle.reading.proofs.Rooms.{cut-same}
 use Rattle.names.specs.Names.{mantissas}
 use Rattle.tables.specs.Small.{nfchans}
@@ -24,8 +24,8 @@ use Rattle.cells.specs.Names.{ACMOD, AHTINU, NUMBLKS, SLOT-BITS}
 use Rattle.sideinfo.specs.Steps.{sumOf}
 use Rattle.sideinfo.specs.Blocks.{flagOf}
 use Rattle.rows.specs.Syntax.{meaning}
-use Rattle.annex.specs.Annex.{header, body}
-use Rattle.annex.specs.Frame.{start, bytesOf, tailNames, eac3}
+use Rattle.annex.specs.Annex.{body}
+use Rattle.annex.specs.Frame.{bytesOf, tailNames, eac3}
 use Rattle.answer.specs.Answer.{slotBitsAt, slotBitsIn, answerBy, frameOf}
 use Rattle.answer.specs.declared.Answer.{Answer}
 use Rattle.answer.specs.declared.Frame.{Frame}
@@ -106,17 +106,17 @@ gives-tail names v l a =
 -- the parts of a frame that is accepted: its header and its body, whose state it gives; the records of both come first
 record Parts (s : List ℕ) (st : State) (o : Outcome State) : Type 0 where
   head : State
-  headed : run (meaning header start) s 0 48 .result ≡ accepted head
-  bodied : run (meaning body head) s (run (meaning header start) s 0 48 .place) (8 * bytesOf head) .result ≡ accepted st
+  header : headed eac3 s .result ≡ accepted head
+  bodied : run (meaning body head) s (headed eac3 s .place) (8 * bytesOf head) .result ≡ accepted st
   more : List Entry
-  lists : o .records ≡ (run (meaning header start) s 0 48 .records ++ run (meaning body head) s (run (meaning header start) s 0 48 .place) (8 * bytesOf head) .records) ++ more
+  lists : o .records ≡ (headed eac3 s .records ++ run (meaning body head) s (headed eac3 s .place) (8 * bytesOf head) .records) ++ more
 
 parts : (s : List ℕ) (st : State) → parse eac3 s .result ≡ accepted st → Parts s st (parse eac3 s)
 unfolding parse sized framed finish after eac3
 parts s st = six (leb 6 (length s))
   where
     O : Outcome State
-    O = run (meaning header start) s 0 48
+    O = headed eac3 s
 
     B : State → Outcome State
     B h = run (meaning body h) s (O .place) (8 * bytesOf h)
@@ -141,7 +141,7 @@ parts s st = six (leb 6 (length s))
     first : (r : Result State) → O .result ≡ r → andThen r (O .place) (O .records) W .result ≡ accepted st → Parts s st (andThen r (O .place) (O .records) W)
     first (accepted h) q d =
         let t = fits h q (leb (bytesOf h) (length s)) d in
-        record { head = h; headed = q; bodied = t .0; more = t .1 .0; lists = ap (λ es. O .records ++ es) (t .1 .1) ∙ sym (append-assoc (O .records) (B h .records) (t .1 .0)) }
+        record { head = h; header = q; bodied = t .0; more = t .1 .0; lists = ap (λ es. O .records ++ es) (t .1 .1) ∙ sym (append-assoc (O .records) (B h .records) (t .1 .0)) }
     first (refused n) q d = absurd (let z : _≡_ {A = ℕ} 0 1 = cc in let o : ⊥ = omega arith in o)
 
     six : (c : Bool) → cond c (andThen (O .result) (O .place) (O .records) W) (out (refused 1) 0 []) .result ≡ accepted st → Parts s st (cond c (andThen (O .result) (O .place) (O .records) W) (out (refused 1) 0 []))
@@ -201,7 +201,7 @@ slot-bits s c = record { adds-up = λ a j h. go a j h; unused = λ a j h. none a
     other a j slot h k o =
         let W = whole s c a in
         let P = parts s (W .st) (W .read) in
-        bits-in s c W j slot k o ∙ other-blocks-have-none s (P .head) (W .st) (P .headed) (P .bodied) j slot (subst (λ n. n ≤ j) (ap (λ (x : Frame). x .numblks) (W .frame)) h) k o
+        bits-in s c W j slot k o ∙ other-blocks-have-none s (P .head) (W .st) (P .header) (P .bodied) j slot (subst (λ n. n ≤ j) (ap (λ (x : Frame). x .numblks) (W .frame)) h) k o
 
     none : Accepts c → (j : ℕ) → j < c .answer .frame .numblks → NoBitsOf c j
     none a j h =
@@ -209,16 +209,16 @@ slot-bits s c = record { adds-up = λ a j h. go a j h; unused = λ a j h. none a
         let m = W .st .cells in
         let P = parts s (W .st) (W .read) in
         let k = block W j h in
-        let few = slots-add-up s (P .head) (W .st) (P .headed) (P .bodied) j k .0 in
-        let N = unused-have-none s (P .head) (W .st) (P .headed) (P .bodied) j k in
-        let E = channels-by-acmod s (P .head) (W .st) (P .headed) (P .bodied) in
+        let few = slots-add-up s (P .head) (W .st) (P .header) (P .bodied) j k .0 in
+        let N = unused-have-none s (P .head) (W .st) (P .header) (P .bodied) j k in
+        let E = channels-by-acmod s (P .head) (W .st) (P .header) (P .bodied) in
         record {
           channels = λ ch i o.
               let e : c .answer .frame .acmod ≡ cellOf m ACMOD = ap (λ (x : Frame). x .acmod) (W .frame) in
               let z = subst (λ n. getD nfchans n 0 ≤ ch) e i in
               bits-in s c W j ch few (omega arith) ∙ N .channels ch (omega arith) o;
           lfe = λ e. bits-in s c W j LFE few (omega arith) ∙ N .lfe (sym (ap (λ (x : Frame). x .lfeon) (W .frame)) ∙ e);
-          coupling = λ e. bits-in s c W j CPL few (omega arith) ∙ N .coupling (none-coupled s (P .head) (W .st) (P .headed) (P .bodied) (sym (ap (λ (x : Frame). x .«cpl_blocks») (W .frame)) ∙ e) j k);
+          coupling = λ e. bits-in s c W j CPL few (omega arith) ∙ N .coupling (none-coupled s (P .head) (W .st) (P .header) (P .bodied) (sym (ap (λ (x : Frame). x .«cpl_blocks») (W .frame)) ∙ e) j k);
           hybrid = λ slot i o l e t.
               let f : getD (c .answer .frame .«aht_slots») slot false ≡ flagOf m (AHTINU + slot) = ap (λ (x : Frame). getD (x .«aht_slots») slot false) (W .frame) ∙ tab-first (λ n. flagOf m (AHTINU + n)) false 7 slot o in
               let b = bits-in s c W i slot (omega arith) o in
@@ -232,9 +232,9 @@ slot-bits s c = record { adds-up = λ a j h. go a j h; unused = λ a j h. none a
         let same = W .same in
         let P = parts s st (W .read) in
         let k = block W j h in
-        let D = slots-add-up s (P .head) st (P .headed) (P .bodied) j k in
+        let D = slots-add-up s (P .head) st (P .header) (P .bodied) j k in
         let X = D .1 in
-        let A : Among (X .entry) (outcome c .records) = subst (Among (X .entry)) (sym (ap (λ (o : Outcome State). o .records) same ∙ P .lists)) (grows-append (run (meaning header start) s 0 48 .records ++ run (meaning body (P .head)) s (run (meaning header start) s 0 48 .place) (8 * bytesOf (P .head)) .records) (P .more) .keeps (X .entry) (X .among)) in
+        let A : Among (X .entry) (outcome c .records) = subst (Among (X .entry)) (sym (ap (λ (o : Outcome State). o .records) same ∙ P .lists)) (grows-append (headed eac3 s .records ++ run (meaning body (P .head)) s (headed eac3 s .place) (8 * bytesOf (P .head)) .records) (P .more) .keeps (X .entry) (X .among)) in
         let T = among-at (X .entry) (outcome c .records) A in
         let H = held c (T .0) (X .entry .field) (T .1) in
         found c j (T .0) (X .entry .field) (H .0) (H .1) (X .name) (X .block)

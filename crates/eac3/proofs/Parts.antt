@@ -1,36 +1,38 @@
 -- The parts of the entry, one after another, are the definition. Assumes nothing.
 use mathlib.Core.Path.{_≡_, refl, ap, sym, _∙_}
-use mathlib.Core.Bool.{Bool, true, false, cond, not}
+use mathlib.Core.Bool.{Bool, true, false, cond, not, _&&_}
 use mathlib.Core.List.{List, []}
 use Prim.Native.Nat.{ℕ, _+_, _-_, _*_, _%_, _≤_, _<_, min}
 use native.Mathlib.Omega.{arith}
 use native.Mathlib.Nat.{add-zero}
 use lib.Dec.{leb, eqb}
 use lib.ListN.{length, getD, replicate, getD-replicate, length-replicate}
-use borrow.Author.Tests.{le-leb, lt-leb, ne-eqb}
+use borrow.Author.Tests.{le-leb, lt-leb, eq-eqb, ne-eqb}
 use Rattle.bits.specs.Bits.{bitsAt}
 use Rattle.bits.proofs.BitLaws.{bitsAt-lt}
 use Rattle.reading.specs.Tree.{Tree, done, _>>=_}
 use Rattle.reading.specs.Run.{Field, fieldOf, Result, accepted, refused, Outcome, out, after, run}
-use Rattle.reading.specs.Frame.{plain, tail as tailOf, finish, framed, sized, parse}
+use Rattle.reading.specs.Frame.{plain, headerBy, seen, headed, tail as tailOf, finish, framed, sized, parse}
 use Rattle.reading.specs.Room.{Room, size, pushed, cut, fill, Out, got, into, record-in, exec}
+use Rattle.reading.proofs.Heads.{barrier, barred}
 use Rattle.reading.proofs.Rooms.{cut-same, go-on, _then_, exec-bind, exec-is, into-after}
 use Rattle.syntax.specs.Records.{outcome, haltedAt, keepOf}
 use Rattle.syntax.specs.Rooms.{Fills}
 use Rattle.syntax.specs.declared.Cursor.{Cursor}
 use Rattle.names.specs.Names.{syncword}
 use Rattle.slots.specs.Held.{Bins}
+use Rattle.slots.proofs.Tests.{both}
 use Rattle.allocation.proofs.MemoLaws.{memo-fresh}
 use Rattle.inputs.specs.Reads.{Right}
-use Rattle.cells.specs.Cells.{State, state, Addr, Sum, cellOf, putIn, placeOf, partOf}
+use Rattle.cells.specs.Cells.{State, state, Addr, Sum, cellOf, putIn, stored, placeOf, partOf}
 use Rattle.cells.specs.Names.{AUXDATAE, BLOCK, FRAME-END, FRMSIZ}
 use Rattle.cells.proofs.Cells.{put-sized, cell-same, cell-other, cell-none}
-use Rattle.rows.specs.Syntax.{Cond, holdsOf, Block, _⨾_, element, reject, item, meaning}
+use Rattle.rows.specs.Syntax.{Cond, holdsOf, end, _⨾_, element, reject, item, meaning}
 use Rattle.annex.specs.Syncinfo.{syncinfo}
 use Rattle.annex.specs.Annex.{header, body}
 use Rattle.annex.specs.Tail.{tail}
 use Rattle.annex.specs.Frame.{start, tailNames, bytesOf, eac3}
-use Rattle.annex.proofs.Header.{frmsiz-is}
+use Rattle.annex.proofs.Header.{sized-is, header-of}
 use Rattle.annex.proofs.Tails.{Outside, rows-tail}
 use Rattle.answer.specs.Answer.{answerOf, numberOf, placeOf as answerPlace, countOf}
 use Rattle.answer.specs.Cursors.{refusalFrom, answerFrom}
@@ -130,7 +132,13 @@ pub kept-fills : {y : Room} (most a b c d e f : ℕ) → most ≡ min a (min b (
 unfolding size
 kept-fills most a b c d e f h n bl ix fi wi va = record { is = rw (n, bl, ix, fi, wi, va) (sym h) }
 
--- the header of a slice
+-- the header of a slice, and the frame after it
+pub begins : (s : List ℕ) (m : Room) (c : Cursor) (st : State) (mu : Room) → outcome c st mu ≡ exec s 48 (headerBy eac3 (seen eac3 s)) 0 0 m
+    → followed c st mu (sized eac3 s) ≡ placed 0 m (readOf s)
+unfolding readOf
+begins s m c st mu e = follows s 48 (headerBy eac3 (seen eac3 s)) 0 0 m c st mu (sized eac3 s) e
+
+-- with a good bsid all items of the header are read
 module _ (s : List ℕ) (m : Room) (c : Cursor) (st : State) (mu : Room) (fresh : outcome c st mu ≡ exec s 48 (meaning header start) 0 0 m) where
   -- frmsiz is at most 2047
   pub small-size : c .stopped ≡ false → cellOf (st .cells) FRMSIZ < 2048
@@ -139,13 +147,12 @@ module _ (s : List ℕ) (m : Room) (c : Cursor) (st : State) (mu : Room) (fresh 
       = ap (λ (o : Out State). o .result) (sym (fresh ∙ exec-is s 48 (meaning header start) 0 0 m)) ∙ ap (λ b. cond b (refused (c .number)) (accepted st)) h in
       let u : cut (size m - 0) (run (meaning header start) s 0 48) ≡ run (meaning header start) s 0 48
       = cut-same (size m - 0) (run (meaning header start) s 0 48) (λ q. let z : _≡_ {A = ℕ} 0 1 = cc in omega arith) in
-      let g : cellOf (st .cells) FRMSIZ ≡ bitsAt s 21 11 = frmsiz-is s .gives st (ap (λ (o : Outcome State). o .result) (sym u) ∙ w) in
+      let g : cellOf (st .cells) FRMSIZ ≡ bitsAt s 21 11 = sized-is s .gives st (ap (λ (o : Outcome State). o .result) (sym u) ∙ w) .size in
       let k : bitsAt s 21 11 < 2048 = bitsAt-lt s 21 11 in
       omega arith
 
-  pub begins : followed c st mu (sized eac3 s) ≡ placed 0 m (readOf s)
-  unfolding readOf
-  begins = follows s 48 (meaning header start) 0 0 m c st mu (sized eac3 s) fresh
+  pub begins-good : eac3 .look .good (seen eac3 s) ≡ true → followed c st mu (sized eac3 s) ≡ placed 0 m (readOf s)
+  begins-good g = begins s m c st mu (fresh ∙ ap (λ (t : Tree State). exec s 48 t 0 0 m) (sym (header-of (seen eac3 s) g)))
 
 -- what follows the header
 module _ (s : List ℕ) (c : Cursor) (st : State) (m : Room) (live : c .stopped ≡ false) (small : cellOf (st .cells) FRMSIZ < 2048)
@@ -205,58 +212,85 @@ module _ (s : List ℕ) (m : Room) where
 abbrev refusedAfter : Field → ℕ → ℕ → ℕ → Room → Out State
 refusedAfter f k next n m = record-in f n m (λ i r. got (refused k) next i r)
 
--- an element, and an item that refuses it
-element-refused : (s : List ℕ) (l name : ℕ) (i : Sum) (w : ℕ) (a : Addr) (c : Cond) (k : ℕ) (b : Block) (st : State) (p n : ℕ) (m : Room) → p + w ≤ l
-    → holdsOf c (putIn (st .cells) (placeOf a (st .cells)) (bitsAt s p w)) ≡ true
-    → exec s l (meaning (element name i w a ⨾ reject c k ⨾ b) st) p n m ≡ refusedAfter (fieldOf (partOf name i (st .cells)) p w (bitsAt s p w)) k (p + w) n m
-unfolding exec meaning item _>>=_
-element-refused s l name i w a c k b st p n m h e = rw (le-leb _ _ h, e) refl
+-- an element, an item that may refuse it, and what follows
+module _ (s : List ℕ) (l name : ℕ) (i : Sum) (w : ℕ) (a : Addr) (c : Cond) (k : ℕ) (f : State → Tree State) (st : State) (p n : ℕ) (m : Room) (h : p + w ≤ l) where
+  element-refused : holdsOf c (stored st (placeOf a (st .cells)) (bitsAt s p w) .cells) ≡ true
+      → exec s l (meaning (element name i w a ⨾ reject c k ⨾ end) st >>= f) p n m ≡ refusedAfter (fieldOf (partOf name i (st .cells)) p w (bitsAt s p w)) k (p + w) n m
+  unfolding exec meaning item _>>=_
+  element-refused e = rw (le-leb _ _ h, e) refl
+
+  element-kept : holdsOf c (stored st (placeOf a (st .cells)) (bitsAt s p w) .cells) ≡ false
+      → exec s l (meaning (element name i w a ⨾ reject c k ⨾ end) st >>= f) p n m
+      ≡ record-in (fieldOf (partOf name i (st .cells)) p w (bitsAt s p w)) n m (λ j r. exec s l (f (stored st (placeOf a (st .cells)) (bitsAt s p w))) (p + w) j r)
+  unfolding exec meaning item _>>=_
+  element-kept e = rw (le-leb _ _ h, e) refl
 
 -- a cursor that is stopped after a record, unless there was no room
-stopped-is : (k : ℕ) (c : Cursor) → stoppedBy k c .stopped ≡ true
-stopped-is k c = go (c .stopped) refl
+stopped-is : (k p : ℕ) (c : Cursor) → stoppedBy k p c .stopped ≡ true
+stopped-is k p c = go (c .stopped) refl
   where
-    go : (b : Bool) → c .stopped ≡ b → cond b c (haltedAt (c .at .0) (c .count) k) .stopped ≡ true
+    go : (b : Bool) → c .stopped ≡ b → cond b c (haltedAt p (c .count) k) .stopped ≡ true
     go true e = e
     go false e = refl
 
-stopped-after : (f : Field) (k next n : ℕ) (m : Room) (c : Cursor) (mu : Room) (st : State) → outcome c (f .value) mu ≡ keepOf f next n m
-    → outcome (stoppedBy k c) st mu ≡ refusedAfter f k next n m
+stopped-after : (f : Field) (k place next n : ℕ) (m : Room) (c : Cursor) (mu : Room) (st : State) → outcome c (f .value) mu ≡ keepOf f next n m
+    → outcome (stoppedBy k place c) st mu ≡ refusedAfter f k place n m
 unfolding go-on
-stopped-after f k next n m c mu st e = stops (c .stopped) refl ∙ ap (λ (o : Out ℕ). o then refuses) e ∙ keeps (leb (size m) n)
+stopped-after f k place next n m c mu st e = stops (c .stopped) refl ∙ ap (λ (o : Out ℕ). o then refuses) e ∙ keeps (leb (size m) n)
   where
     refuses : ℕ → ℕ → ℕ → Room → Out State
-    refuses a p i r = got (refused k) p i r
+    refuses a p i r = got (refused k) place i r
 
     stops : (b : Bool) → c .stopped ≡ b
-        → outcome (cond b c (haltedAt (c .at .0) (c .count) k)) st mu ≡ go-on (cond b (refused (c .number)) (accepted (f .value))) (c .at .0) (c .count) mu refuses
+        → outcome (cond b c (haltedAt place (c .count) k)) st mu ≡ go-on (cond b (refused (c .number)) (accepted (f .value))) (c .at .0) (c .count) mu refuses
     stops true x = rw x refl
     stops false x = refl
 
     keeps : (b : Bool) → _then_ {A = ℕ} {B = State} (cond b (got (refused 33) (f .first) n m) (got (accepted (f .value)) next (n + 1) (pushed m n f))) refuses
-        ≡ cond b (got (refused 33) (f .first) n m) (got (refused k) next (n + 1) (pushed m n f))
+        ≡ cond b (got (refused 33) (f .first) n m) (got (refused k) place (n + 1) (pushed m n f))
     keeps true = refl
     keeps false = refl
 
--- a slice that begins with another word than the sync word: the header records it, and refuses it
-module _ (s : List ℕ) (m : Room) (v : ℕ) (ev : v ≡ bitsAt s 0 16) (other : ¬ (v ≡ 0x0B77)) where
+-- the entry's test of the word w and of bsid, with 11 passed and not passed
+pub high-bsid : (w v b : ℕ) → v ≡ b → w ≡ 0x0B77 → 11 ≤ v → leb v 16 ≡ (eqb w 0x0B77 && (leb 11 b && leb b 16))
+high-bsid w v b e h k = rw (eq-eqb w 0x0B77 h, ← e, le-leb 11 v k) refl
+
+pub low-bsid : (w v b : ℕ) → v ≡ b → w ≡ 0x0B77 → v < 11 → leb 11 v ≡ (eqb w 0x0B77 && (leb 11 b && leb b 16))
+low-bsid w v b e h k = rw (eq-eqb w 0x0B77 h, ← e, lt-leb 11 v k) refl
+
+-- what it tells of bsid
+pub good-bsid : (r : Bool) (v : ℕ) (g : Bool) → r ≡ (eqb v 0x0B77 && g) → r ≡ true → g ≡ true
+good-bsid r v g e f = both (eqb v 0x0B77) g (sym e ∙ f) .1
+
+pub other-bsid : (r : Bool) (v : ℕ) (g : Bool) → r ≡ (eqb v 0x0B77 && g) → r ≡ false → v ≡ 0x0B77 → g ≡ false
+other-bsid r v g e f h = rw (eq-eqb v 0x0B77 h) at (sym e ∙ f)
+
+-- a slice that is refused by its first word, or by its bsid: the header records the word
+module _ (s : List ℕ) (m : Room) (v : ℕ) (ev : v ≡ bitsAt s 0 16) where
   abbrev word : ℕ → Field
   word x = fieldOf (plain syncword) 0 16 x
 
-  differs : not (eqb (bitsAt s 0 16 % 65536) 0x0B77) ≡ true
-  differs =
-      let h : bitsAt s 0 16 < 65536 = bitsAt-lt s 0 16 in
-      let z : bitsAt s 0 16 % 65536 ≡ v = omega arith in
-      rw (z, ne-eqb v 0x0B77 other) refl
+  tested : bitsAt s 0 16 % 65536 ≡ v
+  tested = let h : bitsAt s 0 16 < 65536 = bitsAt-lt s 0 16 in omega arith
 
-  word-refused : exec s 48 (meaning header start) 0 0 m ≡ refusedAfter (word v) 2 16 0 m
-  unfolding header syncinfo start cellOf putIn
-  word-refused = element-refused s 48 _ _ _ _ _ _ _ start 0 0 m (omega arith) differs ∙ ap (λ x. refusedAfter (word x) 2 16 0 m) (sym ev)
+  pub word-refused : ¬ (v ≡ 0x0B77) → exec s 48 (headerBy eac3 (seen eac3 s)) 0 0 m ≡ refusedAfter (word v) 2 16 0 m
+  unfolding headerBy eac3 syncinfo start cellOf putIn
+  word-refused other =
+      let d : not (eqb (bitsAt s 0 16 % 65536) 0x0B77) ≡ true = rw (tested, ne-eqb v 0x0B77 other) refl in
+      element-refused s 48 _ _ _ _ _ _ _ start 0 0 m (omega arith) d ∙ ap (λ x. refusedAfter (word x) 2 16 0 m) (sym ev)
 
-  pub unsynced-answer : (c r : Cursor) (mu : Room) (a : Answer) → 6 ≤ length s → outcome c v mu ≡ keepOf (word v) 16 0 m → r ≡ stoppedBy 2 c → a ≡ refusalFrom r → Called s m a mu
-  unsynced-answer c r mu a h e er ea =
-      let x : r .stopped ≡ true = ap (λ (y : Cursor). y .stopped) er ∙ stopped-is 2 c in
-      let w : outcome r start mu ≡ exec s 48 (meaning header start) 0 0 m
-      = ap (λ (y : Cursor). outcome y start mu) er ∙ stopped-after (word v) 2 16 0 m c mu start e ∙ sym word-refused in
+  pub bsid-refused : v ≡ 0x0B77 → eac3 .look .good (seen eac3 s) ≡ false → exec s 48 (headerBy eac3 (seen eac3 s)) 0 0 m ≡ refusedAfter (word v) 6 45 0 m
+  unfolding eac3 syncinfo start cellOf putIn exec
+  bsid-refused sync bad =
+      let d : not (eqb (bitsAt s 0 16 % 65536) 0x0B77) ≡ false = rw (tested, sync) refl in
+      rw (barred eac3 (seen eac3 s) bad)
+      (element-kept s 48 _ _ _ _ _ _ (barrier eac3) start 0 0 m (omega arith) d ∙ ap (λ x. refusedAfter (word x) 6 45 0 m) (sym ev))
+
+  pub early-answer : (k p : ℕ) → exec s 48 (headerBy eac3 (seen eac3 s)) 0 0 m ≡ refusedAfter (word v) k p 0 m → (c r : Cursor) (mu : Room) (a : Answer) → 6 ≤ length s
+      → outcome c v mu ≡ keepOf (word v) 16 0 m → r ≡ stoppedBy k p c → a ≡ refusalFrom r → Called s m a mu
+  early-answer k p q c r mu a h e er ea =
+      let x : r .stopped ≡ true = ap (λ (y : Cursor). y .stopped) er ∙ stopped-is k p c in
+      let w : outcome r start mu ≡ exec s 48 (headerBy eac3 (seen eac3 s)) 0 0 m
+      = ap (λ (y : Cursor). outcome y start mu) er ∙ stopped-after (word v) k p 16 0 m c mu start e ∙ sym q in
       let z : a ≡ answerFrom r (start .cells) = rw x ea in
       whole-answer s m r start mu a h (stays r start mu (sized eac3 s) x ∙ begins s m r start mu w) z

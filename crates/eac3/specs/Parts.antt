@@ -4,8 +4,8 @@ use mathlib.Core.Bool.{false, cond}
 use mathlib.Core.List.{List}
 use Prim.Native.Nat.{ℕ, _-_, _*_, _<_}
 use lib.ListN.{length}
-use Rattle.reading.specs.Run.{refused, Outcome, after, run}
-use Rattle.reading.specs.Frame.{sized}
+use Rattle.reading.specs.Run.{refused, Outcome, after}
+use Rattle.reading.specs.Frame.{headed, sized}
 use Rattle.reading.specs.Room.{Room, size, cut, Out, got, into}
 use Rattle.syntax.specs.Records.{outcome, haltedAt}
 use Rattle.syntax.specs.Rooms.{Fills}
@@ -14,9 +14,7 @@ use Rattle.slots.specs.Held.{Bins}
 use Rattle.inputs.specs.Reads.{Right}
 use Rattle.cells.specs.Cells.{State, state, cellOf}
 use Rattle.cells.specs.Names.{FRMSIZ}
-use Rattle.rows.specs.Syntax.{meaning}
-use Rattle.annex.specs.Annex.{header}
-use Rattle.annex.specs.Frame.{start, eac3}
+use Rattle.annex.specs.Frame.{eac3}
 use Rattle.annex.specs.Table.{Annexed}
 
 -- an outcome, at the room from the count n on
@@ -27,9 +25,9 @@ placed n m o = into n m (cut (size m - n) o)
 unfoldable pub followed : Cursor → State → Room → (State → ℕ → Outcome State) → Out State
 followed c st m f = cond (c .stopped) (got (refused (c .number)) (c .at .0) (c .count) m) (placed (c .count) m (f st (c .at .0)))
 
--- a cursor stopped by a refusal where it stands, unless it is stopped already
-abbrev pub stoppedBy : ℕ → Cursor → Cursor
-stoppedBy k c = cond (c .stopped) c (haltedAt (c .at .0) (c .count) k)
+-- a cursor stopped by the refusal k at the place p, unless it is stopped already
+abbrev pub stoppedBy : ℕ → ℕ → Cursor → Cursor
+stoppedBy k p c = cond (c .stopped) c (haltedAt p (c .count) k)
 
 -- what follows the header asks: the rows of Annex E, exponents and allocations that are right, the room, and a size that frmsiz can say
 pub record Headed (t cells : List ℕ) (b : Bins) (mem : List ℕ) (most : ℕ) (m : Room) (c : Cursor) : Type 0 where
@@ -45,4 +43,4 @@ pub record Framed (s : List ℕ) (c : Cursor) (st : State) (m : Room) (r : Curso
 
 -- a slice of 6 bytes or more
 unfoldable pub readOf : List ℕ → Outcome State
-readOf s = after (run (meaning header start) s 0 48) (sized eac3 s)
+readOf s = after (headed eac3 s) (sized eac3 s)

@@ -1,12 +1,15 @@
 // The reader of E-AC-3 syncframes (eac3.rs; A/52 Annex E, TS 102 366 Annex E).
 ghost use mathlib.Core.Path.{_≡_};
+ghost use mathlib.Core.Bool.{true, _&&_};
 ghost use Prim.Native.Nat.{_+_, _-_, _*_, _%_, _≤_, _<_};
+ghost use lib.Dec.{eqb};
 ghost use lib.ListN.{length};
+ghost use Rattle.reading.specs.Frame.{seen};
 ghost use Rattle.reading.specs.Room.{room};
 ghost use Rattle.slots.specs.Held.{bins};
 ghost use Rattle.cells.specs.Cells.{state, cellOf, putIn};
 ghost use Rattle.cells.specs.Names.{FRMSIZ as frmsiz, FRAME-END, AUXDATAE as auxdatae};
-ghost use Rattle.annex.specs.Frame.{start};
+ghost use Rattle.annex.specs.Frame.{start, bsidAhead, eac3};
 ghost use Rattle.bits.specs.Bits.{bitsAt};
 ghost use Rattle.eac3.specs.Called.{Called};
 ghost use Rattle.eac3.specs.Parts.{stoppedBy, Headed, Framed};
@@ -32,9 +35,9 @@ use walk::each;
 // Where the rows of the header end, those of the body and those of the tail; each part is run once.
 const AFTER_HEADER: usize = 6;
 
-const AFTER_BODY: usize = 496;
+const AFTER_BODY: usize = 494;
 
-const AFTER_TAIL: usize = 512;
+const AFTER_TAIL: usize = 510;
 
 const ONCE: u32 = 1;
 
@@ -59,14 +62,23 @@ fn earlier(at: BitPlace, width: u16) -> BitPlace
     }
 }
 
-// A refusal at the cursor, unless it is stopped already.
-fn stopped(cur: Cursor, number: u8) -> Cursor
-    ensures { λ r. ⌜ r ≡ stoppedBy number cur ⌝ }
+// A refusal at a place, unless the cursor is stopped already.
+fn stopped(cur: Cursor, number: u8, at: BitPlace) -> Cursor
+    ensures { λ r. ⌜ r ≡ stoppedBy number (at .0) cur ⌝ }
 {
     if cur.stopped {
         return cur;
     }
-    halted(cur.at, cur.count, number)
+    halted(at, cur.count, number)
+}
+
+// Whether a slice begins like an E-AC-3 frame: with the sync word, and with a bsid of 11 to 16, which is looked at ahead.
+fn begins(src: &[u8], word: u32) -> bool
+    requires { ⌜ 6 ≤ length (now src) ⌝ }
+    ensures { λ r. ⌜ r ≡ (eqb word 0x0B77 && bsidAhead .good (bitsAt (now (src .entry)) 40 5)) ⌝ }
+{
+    let bsid = bits_at(src, BitPlace(40), 5);
+    word == SYNC && (11 <= bsid && bsid <= 16)
 }
 
 // The cells of the tail: where the frame ends, and auxdatae, which is looked at ahead.
@@ -89,7 +101,7 @@ fn framed(
     firsts: &mut [u16],
     widths: &mut [u16],
     values: &mut [u32],
-    table: &[u64; 512],
+    table: &[u64; 510],
     cells: &mut [u16; 1024],
     exps: &mut [u8; 1792],
     baps: &mut [u8; 1792],
@@ -161,7 +173,8 @@ fn framed(
     )
 }
 
-// A slice of 6 bytes or more: table, cells and bins are laid, and header, body and tail are run. The entry comes here only where it has seen the sync word.
+// A slice of 6 bytes or more with a good bsid: table, cells and bins are laid, and header, body and tail are run. The entry comes here only where it has
+// seen the sync word.
 fn synced(
     src: &[u8],
     names: &mut [u8],
@@ -171,7 +184,7 @@ fn synced(
     widths: &mut [u16],
     values: &mut [u32],
 ) -> Answer
-    requires { ⌜ 6 ≤ length (now src) ⌝ }
+    requires { ⌜ (6 ≤ length (now src)) × (eac3 .look .good (seen eac3 (now src)) ≡ true) ⌝ }
     ensures { λ r. ⌜ Called (now (src .entry)) (room (now (names .entry)) (now (blocks .entry)) (now (indexes .entry)) (now (firsts .entry)) (now (widths .entry)) (now (values .entry))) r (room (now (names .exit)) (now (blocks .exit)) (now (indexes .exit)) (now (firsts .exit)) (now (widths .exit)) (now (values .exit))) ⌝ }
 {
     let table = annex();
@@ -245,7 +258,7 @@ pub fn parse(
         return refusal(halted(BitPlace(0), 0, 1));
     }
     let word = bits_at(src, BitPlace(0), 16);
-    if word == SYNC {
+    if begins(src, word) {
         return synced(src, names, blocks, indexes, firsts, widths, values);
     }
     let cur = keep(
@@ -264,5 +277,8 @@ pub fn parse(
         word,
         BitPlace(16),
     );
-    refusal(stopped(cur, 2))
+    if word == SYNC {
+        return refusal(stopped(cur, 6, BitPlace(45)));
+    }
+    refusal(stopped(cur, 2, BitPlace(16)))
 }

@@ -85,7 +85,7 @@ few-after {A} {B} {l} {p} {z} {y} o f r h k = go (o .result) refl
 
 -- and a tree, of a tree
 module _ (b : List ℕ) (l : ℕ) where
-  few-bind : {A B : Type 0} {p z y : ℕ} (t : Tree A) (f : A → Tree B) → Few l p z (run t b p l)
+  pub few-bind : {A B : Type 0} {p z y : ℕ} (t : Tree A) (f : A → Tree B) → Few l p z (run t b p l)
       → ((a : A) → run t b p l .result ≡ accepted a → Few l (run t b p l .place) y (run (f a) b (run t b p l .place) l)) → Few l p (z + y) (run (t >>= f) b p l)
   few-bind {p} t f h k = rw (run-bind t f b p l) (few-after (run t b p l) (λ a q. run (f a) b q l) (run-reaches t b p l) h k)
 

@@ -9,8 +9,9 @@ use lib.ListN.{length, getD}
 use Rattle.bits.specs.Bits.{bitsAt}
 use Rattle.reading.specs.Tree.{Part, Skim, stop, fail, at, take, _>>-_, Tree, done, refuse, ahead, here, read, span as spanned, scan, _>>=_}
 use Rattle.reading.specs.Run.{Entry, Result, accepted, refused, Outcome, out, cons, andThen, after, skim, run}
-use Rattle.reading.specs.Frame.{auxdataeAt, ending, tail, finish, framed, sized, parse}
+use Rattle.reading.specs.Frame.{headerBy, seen, headed, auxdataeAt, ending, tail, finish, framed, sized, parse}
 use Rattle.reading.proofs.Laws.{test, choice, skimmed, all-append}
+use Rattle.reading.proofs.Runs.{run-bind}
 use Rattle.tables.specs.Small.{gaqBits}
 use Rattle.slots.specs.Slots.{readOf}
 use Rattle.slots.specs.declared.Shape.{Shape}
@@ -38,9 +39,9 @@ use Rattle.derivations.specs.Derivations.{Numblks, Nfchans, Fresh, Ncplblks, Cp
 use Rattle.derivations.specs.Sets.{exponentsOf}
 use Rattle.derivations.specs.Mantissas.{mantissasIn}
 use Rattle.rows.specs.Syntax.{Item, Block, element, elements, span, mantissas, exponents, when, each, reject, reject-at, put, fill, derive, end, _⨾_, among, holdsOf, turns, one, item, meaning}
-use Rattle.annex.specs.Syncinfo.{syncinfo}
-use Rattle.annex.specs.Annex.{header, body}
-use Rattle.annex.specs.Frame.{start, tailNames, bytesOf, eac3}
+use Rattle.annex.specs.Syncinfo.{syncinfo, bsi-size}
+use Rattle.annex.specs.Annex.{body}
+use Rattle.annex.specs.Frame.{start, tailNames, bytesOf, bsidAhead, eac3}
 use Rattle.outcomes.specs.Outcomes.{refusals, Numbered, spanNames, Keeps, farthest, AllKeep}
 use Rattle.bounds.proofs.Bounded.{pages, header-within}
 use Rattle.bounds.proofs.Bounds.{both, frmsiz-most}
@@ -429,16 +430,35 @@ rejects-body : rejects body ≡ true
 unfolding rejects among refusals spanNames pages
 rejects-body = refl
 
-rejects-header : rejects header ≡ true
-unfolding rejects among refusals header syncinfo
-rejects-header = refl
+rejects-opening : rejects syncinfo ≡ true
+unfolding rejects among refusals syncinfo
+rejects-opening = refl
 
--- a buffer below 6 bytes, and one that is shorter than its frame
-short : (among refusals 1 ≡ true) × (among refusals 4 ≡ true)
+rejects-rest : rejects bsi-size ≡ true
+unfolding rejects among refusals bsi-size
+rejects-rest = refl
+
+-- a buffer below 6 bytes, one that is shorter than its frame, one with another bsid
+short : (among refusals 1 ≡ true) × (among refusals 4 ≡ true) × (among refusals 6 ≡ true)
 unfolding among refusals
-short = (refl, refl)
+short = (refl, refl, refl)
 
 module _ (s : List ℕ) where
+  keeps-headed : Keeps 48 (headed eac3 s)
+  unfolding headerBy eac3
+  keeps-headed =
+      rw (run-bind (meaning syncinfo start) _ s 0 48)
+      (keeps-after 48 o _ k
+      (λ h _. choice (λ t. Keeps 48 (run t s (o .place) 48)) (bsidAhead .good (seen eac3 s))
+      (λ _. keeps-more (max (o .place) 48) 48 (omega (arith, k .place)) (keeps-run s 48 (meaning bsi-size h) (refuses-block bsi-size rejects-rest h) (o .place)))
+      (λ _. keeps-here s 48 48 _ (o .place) (keeps-ahead s 48 48 6 (45 - o .place) (o .place) (short .2) (omega (arith, k .place))))))
+    where
+      o : Outcome State
+      o = run (meaning syncinfo start) s 0 48
+
+      k : Keeps 48 (run (meaning syncinfo start) s 0 48)
+      k = keeps-run s 48 (meaning syncinfo start) (refuses-block syncinfo rejects-opening start) 0
+
   keeps-sized : (h : State) (p : ℕ) → p ≤ 48 → 8 * bytesOf h ≤ farthest → Keeps farthest (sized eac3 s h p)
   unfolding sized framed finish eac3
   keeps-sized h p i j =
@@ -454,8 +474,8 @@ pub all-keep : AllKeep
 unfolding parse eac3
 all-keep s =
     test (Keeps farthest) (leb 6 (length s))
-    (λ _. let k : Keeps 48 (run (meaning header start) s 0 48) = keeps-run s 48 (meaning header start) (refuses-block header rejects-header start) 0 in
-    keeps-after farthest (run (meaning header start) s 0 48) (sized eac3 s) (keeps-more 48 farthest (omega arith) k)
-    (λ h e. keeps-sized s h (run (meaning header start) s 0 48 .place) (k .place)
+    (λ _. let k = keeps-headed s in
+    keeps-after farthest (headed eac3 s) (sized eac3 s) (keeps-more 48 farthest (omega arith) k)
+    (λ h e. keeps-sized s h (headed eac3 s .place) (k .place)
     (let w = header-within s h e .below FRMSIZ in let z : 8 * bytesOf h ≤ farthest = omega (arith, frmsiz-most) in z)))
     (λ _. keeps-none farthest 1 0 (short .0) (omega arith))

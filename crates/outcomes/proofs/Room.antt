@@ -1,7 +1,7 @@
 -- 32,782 records always suffice. A frame has at most 32,768 bits. Of its records 16 may have width 0, as its syntax counts them,
 -- and syncword has 15 bits more than one. Assumes nothing.
 use mathlib.Core.Path.{_≡_, refl, ap, sym, _∙_, subst}
-use mathlib.Core.Bool.{true, true≢false}
+use mathlib.Core.Bool.{Bool, true, false, true≢false}
 use mathlib.Core.List.{List, [], _∷_}
 use Prim.Native.Nat.{ℕ, zero, suc, _+_, _-_, _*_, _≤_}
 use native.Mathlib.Omega.{arith}
@@ -10,25 +10,27 @@ use lib.ListN.{length, length-append}
 use Rattle.bits.specs.Bits.{bitsAt}
 use Rattle.reading.specs.Tree.{Tree, _>>=_}
 use Rattle.reading.specs.Run.{Entry, element as made, Result, accepted, refused, Outcome, out, cons, andThen, after, run}
-use Rattle.reading.specs.Frame.{TailNames, auxdataeAt, ending, tail, finish, framed, sized, parse}
+use Rattle.reading.specs.Frame.{TailNames, seen, headed, auxdataeAt, ending, tail, finish, framed, sized, parse}
 use Rattle.reading.specs.Room.{size, cutAt, cut}
 use Rattle.reading.proofs.Laws.{test, choice}
 use Rattle.reading.proofs.Runs.{after-cons}
+use Rattle.reading.proofs.Heads.{barrier, barred}
 use Rattle.names.specs.Names.{syncword}
 use Rattle.cells.specs.Cells.{State, cellOf, stored, partOf}
 use Rattle.cells.specs.Names.{FRMSIZ, SYNCWORD}
-use Rattle.rows.specs.Syntax.{Block, end, _⨾_, among, item, meaning, none}
-use Rattle.annex.specs.Syncinfo.{syncinfo}
+use Rattle.rows.specs.Syntax.{Block, end, _⨾_, _⧺_, among, item, meaning, none}
+use Rattle.annex.specs.Syncinfo.{syncinfo, bsi-size}
 use Rattle.annex.specs.Annex.{header, body}
 use Rattle.annex.specs.Frame.{start, tailNames, bytesOf, eac3}
+use Rattle.annex.proofs.Header.{header-of, headed-good}
 use Rattle.bounds.specs.Along.{Along}
 use Rattle.bounds.specs.Bounds.{bounds, mostIn, most, Bounded}
 use Rattle.outcomes.specs.Outcomes.{refusals, Numbered}
 use Rattle.outcomes.specs.Suffices.{enough, Suffices}
 use Rattle.bounds.proofs.Bounds.{frmsiz-most}
-use Rattle.bounds.proofs.Bounded.{pages, header-along, header-within, body-bounded}
+use Rattle.bounds.proofs.Bounded.{pages, opening-along, header-along, header-within, body-bounded}
 use Rattle.bounds.proofs.Reaches.{run-reaches}
-use Rattle.outcomes.proofs.Counts.{Few, zeros, few-none, few-after, few-read, few-span, few-done, few-refuse, few-ahead, few-here, few-block}
+use Rattle.outcomes.proofs.Counts.{Few, zeros, few-none, few-after, few-read, few-span, few-done, few-refuse, few-ahead, few-here, few-bind, few-block}
 use Rattle.outcomes.proofs.Outcomes.{all-keep}
 
 -- the tail makes one record that may have width 0: auxbits
@@ -93,27 +95,44 @@ module _ (s : List ℕ) where
   rested = run (meaning rest synced) s 16 48
 
   header-is : run (meaning header start) s 0 48 ≡ cons sync rested
-  unfolding sync rested synced rest behind header syncinfo meaning item run _>>=_ cellOf
+  unfolding sync rested synced rest behind header syncinfo bsi-size _⧺_ meaning item run _>>=_ cellOf
   header-is = refl
 
   rest-along : Along s 48 Bounded rest synced 16 (sync ∷ [])
-  unfolding sync synced rest behind header syncinfo item run Along cellOf
+  unfolding sync synced rest behind header syncinfo bsi-size _⧺_ item run Along cellOf
   rest-along = header-along s .2 synced refl
 
   few-rested : Few 48 16 0 rested
-  unfolding rested rest behind header syncinfo zeros
+  unfolding rested rest behind header syncinfo bsi-size _⧺_ zeros
   few-rested = few-block s 48 rest synced 16 (sync ∷ []) rest-along
 
-  -- the whole but for syncword
-  few-outcome : length (after rested (sized eac3 s) .records) ≤ 32768
+  -- with another bsid there are few records
+  few-barred : eac3 .look .good (seen eac3 s) ≡ false → Few 48 0 0 (headed eac3 s)
+  unfolding eac3 syncinfo zeros
+  few-barred b =
+      rw (barred eac3 (seen eac3 s) b)
+      (few-bind s 48 {z = 0} {y = 0} (meaning syncinfo start) (barrier eac3) (few-block s 48 syncinfo start 0 [] (opening-along s))
+      (λ h e. few-here s 48 _ _ 0 (few-ahead s 48 6 _ _ 0)))
+
+  few-refused : eac3 .look .good (seen eac3 s) ≡ false → length (after (headed eac3 s) (sized eac3 s) .records) ≤ enough
   unfolding after
-  few-outcome = go (rested .result) refl
+  few-refused b = go (headed eac3 s .result) refl
+    where
+      go : (r : Result State) → headed eac3 s .result ≡ r → length (andThen r (headed eac3 s .place) (headed eac3 s .records) (sized eac3 s) .records) ≤ enough
+      go (accepted h) e = absurd (true≢false (sym (headed-good s h e) ∙ b))
+      go (refused n) e = omega (arith, few-barred b .few)
+
+  -- with a good one, all but syncword
+  few-outcome : eac3 .look .good (seen eac3 s) ≡ true → length (after rested (sized eac3 s) .records) ≤ 32768
+  unfolding after
+  few-outcome b = go (rested .result) refl
     where
       go : (r : Result State) → rested .result ≡ r → length (andThen r (rested .place) (rested .records) (sized eac3 s) .records) ≤ 32768
       go (accepted h) e =
-          let d : run (meaning header start) s 0 48 .result ≡ accepted h = ap (λ (o : Outcome State). o .result) header-is ∙ e in
+          let i : headed eac3 s ≡ cons sync rested = ap (λ t. run t s 0 48) (header-of (seen eac3 s) b) ∙ header-is in
+          let d : headed eac3 s .result ≡ accepted h = ap (λ (o : Outcome State). o .result) i ∙ e in
           let a : Along s (8 * bytesOf h) Bounded body h (rested .place) (sync ∷ rested .records) =
-          subst (λ (o : Outcome State). Along s (8 * bytesOf h) Bounded body h (o .place) (o .records)) header-is (body-bounded s h d) in
+          subst (λ (o : Outcome State). Along s (8 * bytesOf h) Bounded body h (o .place) (o .records)) i (body-bounded s h d) in
           let f = few-sized s h (rested .place) (sync ∷ rested .records) a .few in
           let w : cellOf (h .cells) FRMSIZ ≤ 2047 = omega (arith, header-within s h d .below FRMSIZ, frmsiz-most) in
           rw (length-append (rested .records) (sized eac3 s h (rested .place) .records)) (omega (arith, few-rested .few))
@@ -123,8 +142,14 @@ module _ (s : List ℕ) where
   unfolding parse eac3
   at-most =
       test (λ o. length (o .records) ≤ enough) (leb 6 (length s))
-      (λ _. rw header-is (rw (← (after-cons sync rested (sized eac3 s) (after rested (sized eac3 s)) refl)) (omega (arith, few-outcome))))
+      (λ _. go (eac3 .look .good (seen eac3 s)) refl)
       (λ _. omega arith)
+    where
+      go : (b : Bool) → eac3 .look .good (seen eac3 s) ≡ b → length (after (headed eac3 s) (sized eac3 s) .records) ≤ enough
+      go true b =
+          rw (header-of (seen eac3 s) b)
+          (rw header-is (rw (← (after-cons sync rested (sized eac3 s) (after rested (sized eac3 s)) refl)) (omega (arith, few-outcome b))))
+      go false b = few-refused b
 
 -- where there is room for all records nothing is cut
 pub cut-none : {A : Type 0} (n : ℕ) (o : Outcome A) → length (o .records) ≤ n → cut n o ≡ o

@@ -11,6 +11,10 @@ use Rattle.reading.specs.Tree.{Skim, stop, fail, at, take, Tree, done, r
 use Rattle.reading.specs.Run.{Entry, end, Result, accepted, refused, Outcome, out, cons, skim, run, after, andThen}
 use Rattle.reading.specs.Records.{All, Tiles, Whole, Tiled, Valued}
 
+abbrev pub Ok : {A : Type 0} → Result A → Type 0
+Ok (accepted a) = Unit {0}
+Ok (refused n) = ⊥
+
 -- a test, in any predicate of what it chooses between: two outcomes, two trees
 pub test : {A : Type 0} (P : Outcome A → Type 0) (c : Bool) {o u : Outcome A} → (T c → P o) → (T (not c) → P u) → P (cond c o u)
 test P true f g = f tt

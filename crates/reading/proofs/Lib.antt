@@ -4,6 +4,7 @@ pub mod Laws
 pub mod Lockstep
 pub mod Rooms
 pub mod Tails
+pub mod Heads
 pub mod Frames
 pub mod Twins
 pub mod Theorem

@@ -10,10 +10,10 @@ use Rattle.bits.proofs.BitLaws.{same-bytes}
 use Rattle.reading.specs.Run.{Result, accepted, refused, Outcome}
 use Rattle.reading.specs.Frame.{Format, Announces, parse}
 use Rattle.reading.specs.CommonReading.{Holds, Case, answer, Bytes, CommonReading}
-use Rattle.reading.proofs.Lockstep.{Split}
+use Rattle.reading.proofs.Laws.{Ok}
 use Rattle.reading.proofs.Rooms.{cut-same}
-use Rattle.reading.proofs.Frames.{Late, whole, parse-whole, whole-ends, whole-split, stand}
-use Rattle.reading.proofs.Twins.{Ok, Twin, whole-twin}
+use Rattle.reading.proofs.Frames.{Parted, whole, parse-whole, whole-ends, whole-parted, stand-first, stand-second}
+use Rattle.reading.proofs.Twins.{Twin, whole-twin}
 
 -- equal bytes are equal lists
 take-same : (n : ℕ) (x y : List ℕ) → n ≤ length x → n ≤ length y → ((i : ℕ) → i < n → getD x i 0 ≡ getD y i 0) → take n x ≡ take n y
@@ -38,10 +38,10 @@ module _ {H A : Type 0} (F : Format H A) (tells : Announces F) where
     first : answer F m x ≡ whole F x
     first = accepts-whole m x (c .frame) (c .holdsˣ) (c .accepts)
 
-    apart : Split (Late F d (8 * F .announced x)) d (whole F x) (whole F y)
+    apart : Parted F d (8 * F .announced x) (whole F x) (whole F y)
     apart =
         let e : whole F x .result ≡ accepted (c .frame) = rw first at (c .accepts) in
-        whole-split F x y d (c .differ .before) (c .frame) (8 * F .announced x) (c .inside) e (whole-ends F tells x (c .frame) e)
+        whole-parted F x y d (c .differ .before) (c .frame) (8 * F .announced x) (c .inside) e (whole-ends F tells x (c .frame) e)
 
   same-frame : (x y : List ℕ) (a c : A) → Bytes x → Bytes y → Holds F x → Holds F y → whole F x .result ≡ accepted a → whole F y .result ≡ accepted c
       → Twin x y (whole F x) (whole F y) → take (F .announced x) x ≡ take (F .announced y) y
@@ -60,11 +60,11 @@ module _ {H A : Type 0} (F : Format H A) (tells : Announces F) where
     both = λ x y d m n a c e.
         let s = apart x y d m c in
         let u = accepts-whole n y a (c .holdsʸ) e in
-        rw (first x y d m c, u) (stand F x d (s .0) _ _ (s .1) (s .2), stand F x d (s .0) _ _ (s .2) (s .1));
+        rw (first x y d m c, u) (stand-first F x d s (ok (rw u at e)), stand-second F x d s);
     second = λ x y d m n k c e r.
         let s = apart x y d m c in
         let u = answer-whole n y (c .holdsʸ) (λ q. let z : k ≡ 33 = cc in r z) in
-        rw (first x y d m c, u) (s .2 .stands, stand F x d (s .0) _ _ (s .2) (s .1));
+        rw (first x y d m c, u) (s .second .stands, stand-second F x d s);
     same = λ x y m n a c bx by hx hy ex ey l s.
         let ux = accepts-whole m x a hx ex in
         let uy = accepts-whole n y c hy ey in

@@ -10,20 +10,17 @@ use native.Mathlib.Decide.{decLt}
 use lib.Dec.{leb, eqb, T, leb→le, nleb→lt, eqb→eq, eqb-refl}
 use Rattle.bits.specs.Bits.{bitsAt, SameBits}
 use Rattle.bits.proofs.BitLaws.{bitsAt-inj, bitsAt-lt}
-use Rattle.reading.specs.Tree.{Part, Skim, Tree, done, refuse, ahead, here, read, span, scan}
+use Rattle.reading.specs.Tree.{Part, Skim, Tree, done, refuse, ahead, here, read, span, scan, _>>=_}
 use Rattle.reading.specs.Run.{Field, Entry, element, region, Result, accepted, refused, Outcome, out, cons, andThen, after, skim, run}
-use Rattle.reading.specs.Frame.{TailNames, Format, auxdataeAt, tail, finish, framed}
+use Rattle.reading.specs.Frame.{TailNames, Format, seen, auxdataeAt, tail, finish, framed}
 use Rattle.reading.specs.CommonReading.{list, SameSpans}
-use Rattle.reading.proofs.Laws.{test, choice, skimmed}
+use Rattle.reading.proofs.Laws.{Ok, test, choice, skimmed}
 use Rattle.reading.proofs.Runs.{after-cons, after-after}
 use Rattle.reading.proofs.Lockstep.{Common, same, split, skimming}
+use Rattle.reading.proofs.Heads.{clear, good-of, ok-first}
 use Rattle.reading.proofs.Frames.{whole}
 
 ruleset tests = (arith, leb→le, nleb→lt)
-
-abbrev pub Ok : {A : Type 0} → Result A → Type 0
-Ok (accepted a) = Unit {0}
-Ok (refused n) = ⊥
 
 -- of the first record of a list
 abbrev firstValue : List Field → ℕ
@@ -186,8 +183,14 @@ module _ (x y : List ℕ) where
       go : {u v : ℕ} → u ≡ v → Twins x y (run (tree u) x p l) (run (tree v) y p l)
       go {u} e = rw (← e) (alike u)
 
+  -- two accepted readings have the same header: what both have seen ahead is good
   pub whole-twin : {H A : Type 0} (F : Format H A) → Twins x y (whole F x) (whole F y)
   unfolding framed
-  whole-twin F =
-      same-after x y (F .header) 0 48 _ _ (λ i a b. absurd (let z : ⊥ = omega arith in z))
-      (λ h p s. same-after x y (F .body h) p (8 * F .bytes h) _ _ s (finish-twin (F .names) (8 * F .bytes h)))
+  whole-twin F e i j s =
+      go (clear F (seen F x) (good-of F x (seen F x) (ok-first _ _ i))) (clear F (seen F y) (good-of F y (seen F y) (ok-first _ _ j)))
+      (same-after x y (F .opening >>= F .rest) 0 48 _ _ (λ i a b. absurd (let z : ⊥ = omega arith in z))
+      (λ h p s. same-after x y (F .body h) p (8 * F .bytes h) _ _ s (finish-twin (F .names) (8 * F .bytes h)))) e i j s
+    where
+      go : {t r q : Tree _} → t ≡ q → r ≡ q → Twins x y (after (run q x 0 48) (framed F x)) (after (run q y 0 48) (framed F y))
+          → Twins x y (after (run t x 0 48) (framed F x)) (after (run r y 0 48) (framed F y))
+      go e f h = rw (e, f) h

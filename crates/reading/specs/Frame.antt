@@ -1,14 +1,14 @@
 -- A whole frame: a header that announces its size, a body, and the tail: auxdata and errorcheck
 -- (A/52 clauses 5.3.4, 5.3.5, E2.2.5, E2.2.6; TS 102 366 clauses 4.3.4, 4.3.5, E.1.2.5, E.1.2.6).
 use mathlib.Core.Path.{_≡_}
-use mathlib.Core.Bool.{cond}
+use mathlib.Core.Bool.{Bool, cond}
 use mathlib.Core.List.{List, []}
 use Prim.Native.Nat.{ℕ, _+_, _*_, _-_}
 use lib.Dec.{leb, eqb}
 use lib.IntN.{negsuc}
 use lib.ListN.{length}
 use Rattle.bits.specs.Bits.{bitsAt}
-use Rattle.reading.specs.Tree.{Part, Tree, done, refuse, ahead, here, read, span}
+use Rattle.reading.specs.Tree.{Part, Tree, done, refuse, ahead, here, read, span, _>>=_}
 use Rattle.reading.specs.Run.{accepted, refused, Outcome, out, after, run}
 
 -- the numbers of the tail's names
@@ -24,20 +24,50 @@ pub record TailNames : Type 0 where
 abbrev pub plain : ℕ → Part
 plain n = record { name = n; block = negsuc 0; index = negsuc 0 }
 
+-- bits that are looked at ahead, which of their values are good, and the number of the refusal of the others
+pub record Look : Type 0 where
+  pub first : ℕ
+  pub width : ℕ
+  pub good : ℕ → Bool
+  pub number : ℕ
+
+-- the first bit behind them
+abbrev pub behind : Look → ℕ
+behind k = k .first + k .width
+
 -- a format whose header gives H and whose body gives A
 pub record Format (H A : Type 0) : Type 0 where
   pub names : TailNames
-  -- the header lies in the first 6 bytes
-  pub header : Tree H
+  -- the header lies in the first 6 bytes: its opening; then some bits are looked at ahead; then its rest
+  pub opening : Tree H
+  pub look : Look
+  pub rest : H → Tree H
   -- how many bytes the frame has, by its header
   pub bytes : H → ℕ
   pub body : H → Tree A
   -- how many bytes a buffer announces, whatever else it holds
   pub announced : List ℕ → ℕ
 
+-- a refusal at the bit m, of a reading that has come no further
+abbrev pub refuse-at : {A : Type 0} → ℕ → ℕ → Tree A
+refuse-at n m = here λ p. ahead n (m - p)
+
+module _ {H A : Type 0} (F : Format H A) where
+  -- the header, where the number v is seen ahead: a bad one is refused behind its bits, and only the opening is recorded
+  unfoldable pub headerBy : ℕ → Tree H
+  headerBy v = F .opening >>= (λ h. cond (F .look .good v) (F .rest h) (refuse-at (F .look .number) (behind (F .look))))
+
+  -- the number that a buffer shows there
+  abbrev pub seen : List ℕ → ℕ
+  seen b = bitsAt b (F .look .first) (F .look .width)
+
+  -- the header of a buffer
+  abbrev pub headed : List ℕ → Outcome H
+  headed b = run (headerBy (seen b)) b 0 48
+
 -- the header's size is the one that the buffer announces
 abbrev pub Announces : {H A : Type 0} → Format H A → Type 0
-Announces {H} F = (b : List ℕ) (h : H) → run (F .header) b 0 48 .result ≡ accepted h → F .bytes h ≡ F .announced b
+Announces {H} F = (b : List ℕ) (h : H) → headed F b .result ≡ accepted h → F .bytes h ≡ F .announced b
 
 -- where auxdatae stands in a frame that ends at the bit l
 abbrev pub auxdataeAt : ℕ → ℕ
@@ -80,4 +110,4 @@ module _ {H A : Type 0} (F : Format H A) where
   sized b h p = let r = framed b h p in cond (leb (F .bytes h) (length b)) r (out (refused 4) p [])
 
   unfoldable pub parse : List ℕ → Outcome A
-  parse b = let r = after (run (F .header) b 0 48) (sized b) in cond (leb 6 (length b)) r (out (refused 1) 0 [])
+  parse b = let r = after (headed F b) (sized b) in cond (leb 6 (length b)) r (out (refused 1) 0 [])

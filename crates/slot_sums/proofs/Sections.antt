@@ -5,11 +5,12 @@ use mathlib.Core.List.{List, [], _∷_, _++_}
 use Prim.Native.Nat.{ℕ, _*_, _≤_}
 use native.Mathlib.Omega.{arith}
 use Rattle.reading.specs.Run.{Entry, accepted, run}
+use Rattle.reading.specs.Frame.{headerBy, seen, headed}
 use Rattle.cells.specs.Cells.{State}
 use Rattle.cells.specs.Names.{FRMSIZ}
 use Rattle.rows.specs.Syntax.{Item, Block, _⧺_, meaning}
-use Rattle.annex.specs.Annex.{header, body}
-use Rattle.annex.specs.Frame.{start, bytesOf}
+use Rattle.annex.specs.Annex.{body}
+use Rattle.annex.specs.Frame.{bytesOf, eac3}
 use Rattle.bounds.specs.Along.{Point}
 use Rattle.bounds.specs.Bounds.{Within}
 use Rattle.outcomes.specs.Outcomes.{farthest}
@@ -78,14 +79,14 @@ module _ (s : List ℕ) (l : ℕ) (short : l ≤ farthest) where
 -- what holds of a body that is read to its end, whatever the buffer
 abbrev pub AfterBody : Point → Type 0
 AfterBody R =
-    (s : List ℕ) (h st : State) → run (meaning header start) s 0 48 .result ≡ accepted h
-    → run (meaning body h) s (run (meaning header start) s 0 48 .place) (8 * bytesOf h) .result ≡ accepted st
-    → R st (run (meaning body h) s (run (meaning header start) s 0 48 .place) (8 * bytesOf h) .place)
-    (run (meaning header start) s 0 48 .records ++ run (meaning body h) s (run (meaning header start) s 0 48 .place) (8 * bytesOf h) .records)
+    (s : List ℕ) (h st : State) → headed eac3 s .result ≡ accepted h
+    → run (meaning body h) s (headed eac3 s .place) (8 * bytesOf h) .result ≡ accepted st
+    → R st (run (meaning body h) s (headed eac3 s .place) (8 * bytesOf h) .place)
+    (headed eac3 s .records ++ run (meaning body h) s (headed eac3 s .place) (8 * bytesOf h) .records)
 
 -- by a walk through it
-pub body-ends : (R : Point) → ((s : List ℕ) (h : State) → run (meaning header start) s 0 48 .result ≡ accepted h → 8 * bytesOf h ≤ farthest → (p : ℕ) (es : List Entry) → p ≤ farthest
+pub body-ends : (R : Point) → ((s : List ℕ) (h : State) → headed eac3 s .result ≡ accepted h → 8 * bytesOf h ≤ farthest → (p : ℕ) (es : List Entry) → p ≤ farthest
     → Walks s (8 * bytesOf h) Any body h p es R) → AfterBody R
 body-ends R walk s h st e d =
-    let r = run-reaches (meaning header start) s 0 48 .reaches h e in
-    walk s h e (omega (arith, header-within s h e .below FRMSIZ, frmsiz-most)) (run (meaning header start) s 0 48 .place) (run (meaning header start) s 0 48 .records) (omega arith) .ends st d
+    let r = run-reaches (headerBy eac3 (seen eac3 s)) s 0 48 .reaches h e in
+    walk s h e (omega (arith, header-within s h e .below FRMSIZ, frmsiz-most)) (headed eac3 s .place) (headed eac3 s .records) (omega arith) .ends st d

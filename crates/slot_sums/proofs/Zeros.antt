@@ -9,18 +9,20 @@ use native.Mathlib.Omega.{arith}
 use native.Mathlib.Decide.{ℕ-discrete}
 use lib.Dec.{eqb}
 use borrow.Author.Tests.{eqb-true}
-use Rattle.reading.specs.Run.{Entry, accepted, run}
+use Rattle.reading.specs.Run.{Entry, accepted}
+use Rattle.reading.specs.Frame.{headed}
 use Rattle.cells.specs.Cells.{State, state, cellOf, putIn, stored, placeOf, heldOf}
 use Rattle.cells.specs.Names.{BLK, CPL-BLOCKS, CPLINU, CPLINUS, NUMBLKS, SLOT-BITS}
 use Rattle.sideinfo.specs.Blocks.{flagOf}
 use Rattle.derivations.specs.Derivations.{AhtRead, derived}
-use Rattle.rows.specs.Syntax.{Is, Block, _⧺_, cell, holdsOf, meaning}
-use Rattle.annex.specs.Syncinfo.{syncinfo}
+use Rattle.rows.specs.Syntax.{Is, Block, _⧺_, cell, holdsOf}
+use Rattle.annex.specs.Syncinfo.{syncinfo, bsi-size}
 use Rattle.annex.specs.Bsi.{mixing-metadata, mixdef3, informational-metadata, bsi}
 use Rattle.annex.specs.Audfrm.{flags, coupling, strategies, hybrid, offsets, audfrm}
 use Rattle.annex.specs.Audblk.{dynamics, spx-strategy, spx-coordinates, cpl-strategy, cpl-coordinates, rematrixing, bandwidth, exponents-of-block, parameters, deltas, skip-field, quantized, audblk}
 use Rattle.annex.specs.Annex.{header, audblks, body}
-use Rattle.annex.specs.Frame.{start, bytesOf}
+use Rattle.annex.specs.Frame.{start, bytesOf, eac3}
+use Rattle.annex.proofs.Header.{headed-gives}
 use Rattle.bounds.specs.Bounds.{Within}
 use Rattle.outcomes.specs.Outcomes.{farthest}
 use Rattle.cells.proofs.Cells.{cell-none}
@@ -54,11 +56,11 @@ unfolding start
 start-zero = record { uncounted = cell-none CPL-BLOCKS; rows = λ i slot h k. cell-none (SLOT-BITS + 8 * i + slot) }
 
 header-clear : clear (counts []) header ≡ true
-unfolding clear header syncinfo
+unfolding clear header syncinfo bsi-size _⧺_
 header-clear = refl
 
-header-zero : (s : List ℕ) (h : State) → run (meaning header start) s 0 48 .result ≡ accepted h → Zero (h .cells)
-header-zero s h e = zero-stays (start .cells) (h .cells) (walk-by s 48 (omega arith) (counts []) header header-clear start 0 [] start-within (omega arith) .ends h e .changed) start-zero
+header-zero : (s : List ℕ) (h : State) → headed eac3 s .result ≡ accepted h → Zero (h .cells)
+header-zero s h e = zero-stays (start .cells) (h .cells) (walk-by s 48 (omega arith) (counts []) header header-clear start 0 [] start-within (omega arith) .ends h (headed-gives s h e) .changed) start-zero
 
 -- after the use of coupling in k blocks and the bits of j blocks
 abbrev framed : Ranges → Ranges

@@ -6,6 +6,7 @@ use mathlib.Core.List.{List}
 use Prim.Native.Nat.{ℕ, suc, _+_, _*_, min, _≤_, _<_}
 use lib.ListN.{getD}
 use Rattle.reading.specs.Run.{accepted, skim, run}
+use Rattle.reading.specs.Frame.{headed}
 use Rattle.slots.specs.Slots.{CPL, LFE, requestedOf}
 use Rattle.slots.specs.declared.Shape.{Shape}
 use Rattle.cells.specs.Cells.{State, cellOf}
@@ -14,8 +15,8 @@ use Rattle.sideinfo.specs.Blocks.{flagOf}
 use Rattle.sideinfo.specs.Shapes.{shapeOf}
 use Rattle.derivations.specs.Mantissas.{mantissasIn}
 use Rattle.rows.specs.Syntax.{meaning}
-use Rattle.annex.specs.Annex.{header, body}
-use Rattle.annex.specs.Frame.{start, bytesOf}
+use Rattle.annex.specs.Annex.{body}
+use Rattle.annex.specs.Frame.{bytesOf, eac3}
 use Rattle.slot_sums.specs.SlotSums.{slotBits}
 
 -- the bits of a slot by what the walk through a block's mantissas tells: the tags, then the bits of each slot
@@ -46,8 +47,8 @@ pub record NoBits (m : List ℕ) (j : ℕ) : Type 0 where
 -- the cells of a body that is read to its end, whatever the buffer
 abbrev pub AtBodyEnd : (List ℕ → Type 0) → Type 0
 AtBodyEnd P =
-    (s : List ℕ) (h st : State) → run (meaning header start) s 0 48 .result ≡ accepted h
-    → run (meaning body h) s (run (meaning header start) s 0 48 .place) (8 * bytesOf h) .result ≡ accepted st → P (st .cells)
+    (s : List ℕ) (h st : State) → headed eac3 s .result ≡ accepted h
+    → run (meaning body h) s (headed eac3 s .place) (8 * bytesOf h) .result ≡ accepted st → P (st .cells)
 
 -- of every block of the frame; and of a block that the frame has not, every slot
 abbrev pub UnusedHaveNone : Type 0

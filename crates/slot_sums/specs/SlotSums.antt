@@ -4,13 +4,14 @@ use mathlib.Core.List.{List, _++_}
 use Prim.Native.Nat.{ℕ, _+_, _*_, _<_}
 use lib.IntN.{pos}
 use Rattle.reading.specs.Run.{Entry, accepted, run}
+use Rattle.reading.specs.Frame.{headed}
 use Rattle.names.specs.Names.{mantissas}
 use Rattle.cells.specs.Cells.{State, cellOf}
 use Rattle.cells.specs.Names.{NUMBLKS, SLOT-BITS}
 use Rattle.sideinfo.specs.Steps.{sumOf}
 use Rattle.rows.specs.Syntax.{meaning}
-use Rattle.annex.specs.Annex.{header, body}
-use Rattle.annex.specs.Frame.{start, bytesOf}
+use Rattle.annex.specs.Annex.{body}
+use Rattle.annex.specs.Frame.{bytesOf, eac3}
 use Rattle.bounds.specs.Along.{Among}
 
 -- the bits of a slot in the block j, and those of all slots
@@ -31,7 +32,7 @@ pub record Adds (m : List ℕ) (es : List Entry) (j : ℕ) : Type 0 where
 -- whatever the buffer, of every block of a body that is read to its end
 abbrev pub SlotsAddUp : Type 0
 SlotsAddUp =
-    (s : List ℕ) (h st : State) → run (meaning header start) s 0 48 .result ≡ accepted h
-    → run (meaning body h) s (run (meaning header start) s 0 48 .place) (8 * bytesOf h) .result ≡ accepted st
+    (s : List ℕ) (h st : State) → headed eac3 s .result ≡ accepted h
+    → run (meaning body h) s (headed eac3 s .place) (8 * bytesOf h) .result ≡ accepted st
     → (j : ℕ) → j < cellOf (st .cells) NUMBLKS
-    → (j < 6) × Adds (st .cells) (run (meaning header start) s 0 48 .records ++ run (meaning body h) s (run (meaning header start) s 0 48 .place) (8 * bytesOf h) .records) j
+    → (j < 6) × Adds (st .cells) (headed eac3 s .records ++ run (meaning body h) s (headed eac3 s .place) (8 * bytesOf h) .records) j

@@ -7,3 +7,4 @@ pub mod Sent
 pub mod Unmet
 pub mod Pointed
 pub mod Visited
+pub mod Bsid

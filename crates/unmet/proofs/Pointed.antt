@@ -37,6 +37,7 @@ use Rattle.annex.specs.Audfrm.{audfrm}
 use Rattle.annex.specs.Audblk.{dynamics, spx-strategy, spx-coordinates, cpl-strategy, cpl-coordinates, rematrixing, bandwidth, exponents-of-block, parameters, deltas, skip-field, quantized, audblk}
 use Rattle.annex.specs.Annex.{header, audblks, body}
 use Rattle.annex.specs.Frame.{start}
+use Rattle.annex.proofs.Header.{headed-gives}
 use Rattle.bounds.specs.Along.{Point}
 use Rattle.bounds.specs.Bounds.{tagsMost, bounds, mostIn, most, Within}
 use Rattle.unmet.specs.Unmet.{mostPointer, Pointers, Pointed, AllPointed}
@@ -355,4 +356,4 @@ start-sized = length-replicate {A = ℕ} 1792 0
 -- whatever the buffer, at the mantissas of every block that the reading of its body comes to
 pub pointed : AllPointed
 unfolding Kept
-pointed s h e = body-walk s _ h _ _ (header-within s h e, sized-block s 48 header start 0 [] start-sized .ends h e) .along
+pointed s h e = body-walk s _ h _ _ (header-within s h e, sized-block s 48 header start 0 [] start-sized .ends h (headed-gives s h e)) .along

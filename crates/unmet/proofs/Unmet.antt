@@ -16,6 +16,7 @@ use Rattle.annex.specs.Bsi.{bsi}
 use Rattle.annex.specs.Audfrm.{flags, coupling, strategies, hybrid, offsets, audfrm}
 use Rattle.annex.specs.Audblk.{dynamics, spx-strategy, spx-coordinates, cpl-strategy, cpl-coordinates, rematrixing, bandwidth, exponents-of-block, parameters, deltas, skip-field, quantized, audblk}
 use Rattle.annex.specs.Annex.{audblks, body}
+use Rattle.annex.proofs.Header.{headed-gives}
 use Rattle.bounds.specs.Along.{Point}
 use Rattle.bounds.specs.Bounds.{tagsMost, Within}
 use Rattle.unmet.specs.Unmet.{Offsets, Ready, Unmet, NoneMet}
@@ -462,4 +463,4 @@ module _ (s : List ℕ) (l : ℕ) where
 
 -- whatever the buffer: wherever the reading of its body comes, the tests that were left out are not met
 pub unmet : NoneMet
-unmet s h e = body-walk s _ h _ _ (header-within s h e) (header-blank s 48 h e) .along
+unmet s h e = body-walk s _ h _ _ (header-within s h e) (header-blank s 48 h (headed-gives s h e)) .along

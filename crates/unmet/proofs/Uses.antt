@@ -15,8 +15,8 @@ use Rattle.cells.specs.Cells.{State, cellOf, putIn, stored, placeOf, heldOf}
 use Rattle.cells.specs.Names.{ACMOD, BLK, CHBWCOD, CPLINUS, CPLSTRE, FSCOD, NFCHANS, NUMBLKS}
 use Rattle.sideinfo.specs.Frames.{nfchansBy}
 use Rattle.derivations.specs.Derivations.{Nfchans, derived}
-use Rattle.rows.specs.Syntax.{Let, at, meaning}
-use Rattle.annex.specs.Syncinfo.{syncinfo}
+use Rattle.rows.specs.Syntax.{Let, _⧺_, at, meaning}
+use Rattle.annex.specs.Syncinfo.{syncinfo, bsi-size}
 use Rattle.annex.specs.Bsi.{mixdef3, mixing-metadata, informational-metadata, bsi}
 use Rattle.annex.specs.Audfrm.{coupling}
 use Rattle.annex.specs.Annex.{header}
@@ -103,7 +103,7 @@ uses-stay x y g u =
 module _ (s : List ℕ) (l : ℕ) where
   -- the header sends nothing of them
   pub header-blank : (h : State) → run (meaning header start) s 0 l .result ≡ accepted h → Blank (h .cells)
-  unfolding header syncinfo passes blank start
+  unfolding header syncinfo bsi-size _⧺_ passes blank start
   header-blank h e =
       whole s l (leavesUnsent blank) header refl start 0 [] none-within {R = λ a q fs. Blank (a .cells)}
       (λ a q fs g _. blank-stays (start .cells) (a .cells) g (record { none = λ j _ _. cell-none j; coded = λ ch _. let z = cell-none (CHBWCOD + ch) in omega arith }))
@@ -111,7 +111,7 @@ module _ (s : List ℕ) (l : ℕ) where
 
   -- and asks for nothing that was left out
   pub header-unmet : Along s l Unmet header start 0 []
-  unfolding header syncinfo passes start
+  unfolding header syncinfo bsi-size _⧺_ passes start
   header-unmet = whole s l (leavesUnsent []) header refl start 0 [] none-within {R = λ a q fs. Unit {0}} (λ a q fs g _. tt) .along
 
   -- what the section leaves: the number of blocks and the codes; and its first flag

@@ -1,14 +1,16 @@
--- The tests of the reference that no input meets, where it makes them: at the test of the coupling sub-bands, at a set of exponents, at the allocation of a
--- block, and at its mantissas.
--- Proved in proofs/Unmet.antt, proofs/Pointed.antt and proofs/Visited.antt.
+-- The tests of the reference that no input meets, where it makes them: at the bsid record, at the test of the coupling sub-bands, at a set of exponents, at
+-- the allocation of a block, and at its mantissas.
+-- Proved in proofs/Bsid.antt, proofs/Unmet.antt, proofs/Pointed.antt and proofs/Visited.antt.
 use mathlib.Core.Path.{_≡_}
 use mathlib.Core.Bool.{Bool, true, false, cond}
 use mathlib.Core.List.{List}
 use mathlib.Core.Logic.{_⊎_}
 use Prim.Native.Nat.{ℕ, _+_, _*_, _%_, _≤_, _<_}
 use lib.ListN.{getD}
-use Rattle.names.specs.Names.{cplfleak, cplsleak, csnroffst, frmcsnroffst}
-use Rattle.reading.specs.Run.{Entry, accepted, run}
+use Rattle.names.specs.Names.{bsid, cplfleak, cplsleak, csnroffst, frmcsnroffst}
+use Rattle.reading.specs.Run.{Entry, accepted}
+use Rattle.reading.specs.Records.{All}
+use Rattle.reading.specs.Frame.{headed, parse}
 use Rattle.slots.specs.Slots.{requestedOf, pointer}
 use Rattle.exponents.specs.Exponents.{sizeOf, groupsOf, firstOf}
 use Rattle.cells.specs.Cells.{State, Addr, cellOf, sumOf}
@@ -18,10 +20,17 @@ use Rattle.derivations.specs.Sets.{strategyOf, startOf, endOf}
 use Rattle.sideinfo.specs.Shapes.{shapeOf}
 use Rattle.plan.specs.Plan.{mantissasOf}
 use Rattle.slots.specs.declared.Shape.{Shape}
-use Rattle.rows.specs.Syntax.{Item, element, elements, span, mantissas, exponents, when, each, reject, reject-at, put, fill, derive, meaning}
-use Rattle.annex.specs.Annex.{header, body}
-use Rattle.annex.specs.Frame.{start, bytesOf}
+use Rattle.rows.specs.Syntax.{Item, element, elements, span, mantissas, exponents, when, each, reject, reject-at, put, fill, derive}
+use Rattle.annex.specs.Annex.{body}
+use Rattle.annex.specs.Frame.{bytesOf, eac3}
 use Rattle.bounds.specs.Along.{Point, Has, Along}
+
+-- whatever the buffer, a bsid record holds 11 to 16
+abbrev pub BsidFits : Entry → Type 0
+BsidFits e = e .field .name ≡ bsid → (11 ≤ e .field .value) × (e .field .value ≤ 16)
+
+abbrev pub BsidsFit : Type 0
+BsidsFit = (s : List ℕ) → All BsidFits (parse eac3 s .records)
 
 -- SNR offsets were sent; and coupling leaks
 abbrev pub Offsets : List Entry → Type 0
@@ -104,10 +113,10 @@ Pointed i st p es = (name : ℕ) (a : Addr) → i ≡ mantissas name a → Point
 -- whatever the buffer, wherever the reading of its body comes
 abbrev pub NoneMet : Type 0
 NoneMet =
-    (s : List ℕ) (h : State) → run (meaning header start) s 0 48 .result ≡ accepted h
-    → Along s (8 * bytesOf h) Unmet body h (run (meaning header start) s 0 48 .place) (run (meaning header start) s 0 48 .records)
+    (s : List ℕ) (h : State) → headed eac3 s .result ≡ accepted h
+    → Along s (8 * bytesOf h) Unmet body h (headed eac3 s .place) (headed eac3 s .records)
 
 abbrev pub AllPointed : Type 0
 AllPointed =
-    (s : List ℕ) (h : State) → run (meaning header start) s 0 48 .result ≡ accepted h
-    → Along s (8 * bytesOf h) Pointed body h (run (meaning header start) s 0 48 .place) (run (meaning header start) s 0 48 .records)
+    (s : List ℕ) (h : State) → headed eac3 s .result ≡ accepted h
+    → Along s (8 * bytesOf h) Pointed body h (headed eac3 s .place) (headed eac3 s .records)

@@ -21,7 +21,7 @@ use Rattle.rows.specs.Rows.{Row, Elements, Span, Mantissas, Exponents, When, Ea
 use Rattle.rows.specs.Steps.{Move, runs, go, deals, loops, dealing, dealtOf, stepOf}
 use Rattle.rows.specs.Standing.{Stands, narrow, allNarrow}
 use Rattle.rows.proofs.Masks.{mask-holds, refusal-here, refusal-at}
-use Rattle.walk.proofs.Blocks.{flat-append, size-append, meaning-append, plain-append, drop-flat}
+use Rattle.rows.proofs.Blocks.{flat-append, size-append, meaning-append, plain-append, drop-flat}
 
 -- the test of the widths, at each row
 pub narrow-at : (t : List ℕ) (pc : ℕ) → pc < length t → allNarrow t ≡ true → narrow (getD t pc 0) ≡ true

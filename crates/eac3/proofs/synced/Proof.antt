@@ -5,13 +5,13 @@ use Rattle.syntax.proofs.Rooms.{least-fills}
 use Rattle.walk.proofs.Walks.{turned-once}
 use Rattle.annex.specs.Annex.{header}
 use Rattle.annex.specs.Frame.{start}
-use Rattle.eac3.proofs.Parts.{right-start, kept-fills, small-size, begins, whole-answer}
+use Rattle.eac3.proofs.Parts.{right-start, kept-fills, small-size, begins-good, whole-answer}
 use Rattle.eac3.proofs.synced.Statement.{statement}
 use Rattle.eac3.proofs.synced.Tie as tie
 
 each-requires : tie.Need-each-requires
 unfolding start
-each-requires c κs = record { what = header; stands = c .before .before .before .before .before .before .before .before .before .before .before .before .annex .ensures .headed; table = c .before .before .before .before .before .before .before .before .before .before .before .before .annex .ensures .table; within = omega (arith, c .before .before .before .before .before .before .before .before .before .before .before .before .before .before .before .before .before .before .pre); right = right-start; fills = least-fills _ _ (c .before .before .before .before .before .before .before .before .before .before .before .least .ensures) }
+each-requires c κs = record { what = header; stands = c .before .before .before .before .before .before .before .before .before .before .before .before .annex .ensures .headed; table = c .before .before .before .before .before .before .before .before .before .before .before .before .annex .ensures .table; within = omega (arith, c .before .before .before .before .before .before .before .before .before .before .before .before .before .before .before .before .before .before .pre .0); right = right-start; fills = least-fills _ _ (c .before .before .before .before .before .before .before .before .before .before .before .least .ensures) }
 
 framed-requires : tie.Need-framed-requires
 unfolding start
@@ -37,7 +37,7 @@ same-length-6 c = c .before .before .before .before .before .before .before .bef
 
 returns : tie.Need-returns
 unfolding start
-returns c = whole-answer _ _ (c .before .before .before .before .before .before .before .before .before .before .before .before .framed .result) _ _ _ (omega (arith, c .before .before .before .before .before .before .before .before .before .before .before .before .before .before .before .before .before .before .before .before .before .before .before .before .before .before .before .before .before .before .before .before .before .before .before .before .before .before .before .before .before .before .before .before .before .before .before .before .before .before .before .before .before .pre)) (c .before .before .before .before .before .before .before .before .before .before .before .before .framed .ensures .is ∙ begins _ _ (c .before .before .before .before .before .before .before .before .before .before .before .before .before .before .before .before .before .before .before .before .before .before .before .before .before .before .before .before .before .before .before .before .before .before .each .result) _ _ (turned-once (c .before .before .before .before .before .before .before .before .before .before .before .before .before .before .before .before .before .before .before .before .before .before .before .before .before .before .before .before .before .before .before .before .before .before .each .ensures) header (c .before .before .before .before .before .before .before .before .before .before .before .before .before .before .before .before .before .before .before .before .before .before .before .before .before .before .before .before .before .before .before .before .before .before .before .before .before .before .before .before .before .before .before .before .before .before .before .annex .ensures .headed))) (c .answer-of .ensures)
+returns c = whole-answer _ _ (c .before .before .before .before .before .before .before .before .before .before .before .before .framed .result) _ _ _ (omega (arith, c .before .before .before .before .before .before .before .before .before .before .before .before .before .before .before .before .before .before .before .before .before .before .before .before .before .before .before .before .before .before .before .before .before .before .before .before .before .before .before .before .before .before .before .before .before .before .before .before .before .before .before .before .before .pre .0)) (c .before .before .before .before .before .before .before .before .before .before .before .before .framed .ensures .is ∙ begins-good _ _ (c .before .before .before .before .before .before .before .before .before .before .before .before .before .before .before .before .before .before .before .before .before .before .before .before .before .before .before .before .before .before .before .before .before .before .each .result) _ _ (turned-once (c .before .before .before .before .before .before .before .before .before .before .before .before .before .before .before .before .before .before .before .before .before .before .before .before .before .before .before .before .before .before .before .before .before .before .each .ensures) header (c .before .before .before .before .before .before .before .before .before .before .before .before .before .before .before .before .before .before .before .before .before .before .before .before .before .before .before .before .before .before .before .before .before .before .before .before .before .before .before .before .before .before .before .before .before .before .before .annex .ensures .headed)) (c .before .before .before .before .before .before .before .before .before .before .before .before .before .before .before .before .before .before .before .before .before .before .before .before .before .before .before .before .before .before .before .before .before .before .before .before .before .before .before .before .before .before .before .before .before .before .before .before .before .before .before .before .before .pre .1)) (c .answer-of .ensures)
 
 pub synced-spec : {M : Type 1} → statement M
 synced-spec =
