@@ -80,6 +80,8 @@ pub struct Seen {
     pub tag: [u64; 2],
     /// Blocks whose offsets are all 0.
     pub silent: u64,
+    /// Slots that go on with a group of mantissas that a slot before them opened.
+    pub across: u64,
 }
 
 /// All that the walk knows. Places in arrays go by block, channel or slot.
@@ -1032,6 +1034,7 @@ impl<S: Source> Walk<'_, S> {
 
     fn conventional(&mut self, slot: usize, left: &mut [u8; 3]) -> Step<()> {
         let (start, end) = self.s.range(slot);
+        let (mut open, mut across) = (left.map(|n| n > 0), false);
         for bin in start..end {
             let bap = self.s.baps[slot][bin];
             self.seen.bap[usize::from(bap)] += 1;
@@ -1047,9 +1050,12 @@ impl<S: Source> Walk<'_, S> {
             if left[group] == 0 {
                 self.pass(width)?;
                 left[group] = size;
+                open[group] = false;
             }
             left[group] -= 1;
+            across |= open[group];
         }
+        self.seen.across += u64::from(across);
         Ok(())
     }
 

@@ -125,6 +125,7 @@ fn report(c: &Compare) -> Vec<String> {
     counts("gains", gains.into_iter().map(|(mode, g)| (format!("{} under gaqmod {mode}:", 1 << g), m.seen.gain[mode][g])), &mut unmet);
     counts("tags", [("gain 2:", 0), ("gain 4:", 1)].into_iter().map(|(t, k)| (t.to_string(), m.seen.tag[k])), &mut unmet);
     counts("silent blocks", [(String::new(), m.seen.silent)].into_iter(), &mut unmet);
+    counts("slots with a group of the slot before", [(String::new(), m.seen.across)].into_iter(), &mut unmet);
     counts("records", NAMES.iter().zip(m.names).map(|(name, n)| (name.to_string(), n)), &mut unmet);
     unmet
 }

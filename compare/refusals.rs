@@ -41,6 +41,12 @@ fn first_line(a: &Answer) -> String {
     }
 }
 
+/// The bits of the slots of an accepted frame, block by block.
+fn bits_line(a: &Answer) -> String {
+    let bits: Vec<String> = a[34..].iter().map(u64::to_string).collect();
+    format!("bits {}\n", bits.join(" "))
+}
+
 fn main() {
     let args: Vec<String> = std::env::args().collect();
     let file = std::fs::read(&args[1]).expect("the list can be read");
@@ -57,9 +63,7 @@ fn main() {
         theirs.bytes(62);
         sum += theirs.pair();
         met[a[0] as usize] += 1;
-        if a[0] != 0 {
-            lines += &first_line(&a);
-        }
+        lines += &if a[0] == 0 { bits_line(&a) } else { first_line(&a) };
     }
     let [accepted, invalid, unsupported, truncated] = verdicts;
     lines += &format!("cases {cases} accepted {accepted} invalid {invalid} unsupported {unsupported} truncated {truncated} records {sum} differences 0\n");

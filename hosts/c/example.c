@@ -1,4 +1,4 @@
-/* Reads one frame from standard input and says where its blocks begin and which loudness words it has. */
+/* Reads one frame from standard input and says where its blocks begin, how many bits their slots take, and which loudness words it has. */
 #include "eac3.h"
 #include "eac3_names.h"
 #include <stdio.h>
@@ -36,9 +36,13 @@ int main(void)
     }
     printf("%u bytes, %u blocks, %u records\n", (unsigned)answer[EAC3_FRAME_BYTES], (unsigned)answer[EAC3_NUMBLKS],
            (unsigned)answer[EAC3_FIELDS]);
-    for (unsigned b = 0; b < answer[EAC3_NUMBLKS]; b++)
-        printf("block %u begins at bit %u, its mantissas at bit %u\n", b, (unsigned)answer[EAC3_BLOCK_STARTS + b],
+    for (unsigned b = 0; b < answer[EAC3_NUMBLKS]; b++) {
+        printf("block %u begins at bit %u, its mantissas at bit %u; bits by slot", b, (unsigned)answer[EAC3_BLOCK_STARTS + b],
                (unsigned)answer[EAC3_MANTISSA_STARTS + b]);
+        for (unsigned slot = 0; slot < 7; slot++)
+            printf(" %u", (unsigned)answer[EAC3_SLOT_BITS + 7 * b + slot]);
+        printf("\n");
+    }
     printf("audio ends at bit %u\n", (unsigned)answer[EAC3_AUDIO_END]);
     for (size_t i = 0; i < answer[EAC3_FIELDS]; i++)
         if (loudness(names[i]) != NULL)

@@ -1,4 +1,4 @@
-//! Reads one frame from standard input and prints how many bits its records of each block take.
+//! Reads one frame from standard input and prints how many bits its records of each block take, and how many its mantissas, slot by slot.
 mod eac3;
 use std::io::Read;
 
@@ -12,6 +12,9 @@ fn main() {
             for block in -1..frame.numblks as i8 {
                 let bits: u32 = (0..frame.records).filter_map(|i| room.record(i)).filter(|r| r.block == block).map(|r| r.width as u32).sum();
                 println!("block {block}: {bits} bits");
+            }
+            for (block, slots) in frame.slot_bits.iter().take(frame.numblks.into()).enumerate() {
+                println!("mantissas of block {block} by slot: {slots:?} bits");
             }
         }
         Err(refusal) => {

@@ -1,8 +1,8 @@
 -- What a reading answers: an accepted frame, or one numbered refusal.
 use mathlib.Core.Bool.{false}
-use mathlib.Core.List.{List}
+use mathlib.Core.List.{List, []}
 use Prim.Native.Nat.{ℕ, _+_, _*_, _/_}
-use lib.ListN.{replicate}
+use lib.ListN.{getD, replicate}
 use Rattle.reading.specs.Run.{Result, accepted, refused}
 use Rattle.reading.specs.Room.{Out}
 use Rattle.cells.specs.Cells.{State, cellOf}
@@ -30,6 +30,10 @@ slotBitsAt m k = record { bits = valuesOf m k 7 }
 
 abbrev pub slotBitsIn : List ℕ → List SlotBits
 slotBitsIn m = tabOf (λ b. slotBitsAt m (SLOT-BITS + 8 * b)) 0 6
+
+-- the bits of a slot in the block j
+abbrev pub bitsIn : List SlotBits → ℕ → ℕ → ℕ
+bitsIn blocks j slot = getD (getD blocks j (record { bits = [] }) .bits) slot 0
 
 -- what the cells tell of an accepted frame that ends at the place p, with n records
 abbrev pub frameOf : List ℕ → ℕ → ℕ → Frame

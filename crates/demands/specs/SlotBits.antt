@@ -3,19 +3,20 @@
 use Prim.Native.Nat.{ℕ, _≤_, _<_}
 use mathlib.Core.Path.{_≡_}
 use mathlib.Core.Bool.{true, false}
-use mathlib.Core.List.{List, []}
+use mathlib.Core.List.{List}
 use lib.IntN.{pos}
 use lib.ListN.{getD}
 use Rattle.names.specs.Names.{mantissas}
 use Rattle.tables.specs.Small.{nfchans}
 use Rattle.slots.specs.Slots.{CPL, LFE}
 use Rattle.sideinfo.specs.Steps.{sumOf}
+use Rattle.answer.specs.Answer.{bitsIn}
 use Rattle.demands.specs.Calls.{Call, count, nth, Accepts}
 
 module _ {s : List ℕ} where
   -- the bits of a slot in the block j
   abbrev pub bitsOf : Call s → ℕ → ℕ → ℕ
-  bitsOf c j slot = getD (getD (c .answer .frame .«slot_bits») j (record { bits = [] }) .bits) slot 0
+  bitsOf c = bitsIn (c .answer .frame .«slot_bits»)
 
   -- the mantissas record of the block j, as wide as the bits of its seven slots
   pub record MantissasOf (c : Call s) (j : ℕ) : Type 0 where

@@ -9,7 +9,7 @@ use native.Mathlib.Decide.{decLt}
 use lib.Dec.{ltb}
 use lib.IntN.{ℤ, pos, negsuc, natAbs}
 use lib.Signed.{ltZ}
-use lib.ListN.{length, take, length-append}
+use lib.ListN.{length, take, replicate, length-append}
 use mir.Syntax.{w16}
 use mir.Val.{SFits, toZ, ofZ}
 use mir.Facts.{toZ-ofZ}
@@ -54,6 +54,27 @@ few (suc most) n = go (decLt n 10) (few most (n / 10))
     go (yes l) h = rw (lt-ltb n 10 l) (omega arith)
     go (no l) h = rw (le-ltb n 10 (let z : 10 ≤ n = omega arith in z), length-append) (omega arith)
 
+-- a number of 64 bits has no more than 20 digits
+pub no-more : (n k : ℕ) → n < 18446744073709551616 → io.Fewest 10 1 n k → k ≤ 20
+no-more n k h f = go (decLt 20 k)
+  where
+    go : Dec (20 < k) → k ≤ 20
+    go (no l) = omega arith
+    go (yes l) =
+        let low : 10 ^ (k - 1) ≤ n = f .2 (omega arith) in
+        let up : 10 ^ 20 ≤ 10 ^ (k - 1) = pow-le-pow-right {n = 10} (omega arith) {i = 20} {j = k - 1} (omega arith) in
+        absurd (let z : ⊥ = omega arith in z)
+
+-- the first blanks of more of them
+pub first-of : (n m x : ℕ) → n ≤ m → take n (replicate m x) ≡ replicate n x
+first-of zero m x h = refl
+first-of (suc n) zero x h = absurd (let z : ⊥ = omega arith in z)
+first-of (suc n) (suc m) x h = ap (λ l. x ∷ l) (first-of n m x (omega arith))
+
+-- the digits of the library are those of the definition
+pub library : (out : List ℕ) (n k : ℕ) → n < 18446744073709551616 → io.Fewest 10 1 n k → take k out ≡ io.digits 10 k n → take k out ≡ decimalOf n
+library out n k h f e = e ∙ fewest 20 k n (no-more n k h f) f
+
 -- a sign where there is one
 below : (z : ℤ) → ltZ z (pos 0) ≡ true → signedOf z ≡ 45 ∷ decimalOf (natAbs z)
 below (pos n) e = not-below n e
@@ -75,14 +96,3 @@ pub no-minus : {old new : List ℕ} {at m size : ℕ} {z : ℤ} → SFits w16 z 
     → (end : List ℕ) → Added old at (decimalOf m ++ end) new size → Added old at (signedOf z ++ end) new size
 no-minus {old} {new} {at} {m} {size} {z} s e a end p =
     subst (λ t. Added old at (t ++ end) new size) (sym (above z (read s e) ∙ ap decimalOf (sym (a ∙ ap natAbs (toZ-ofZ s))))) p
-
--- a number of 64 bits has no more than 20 digits
-pub no-more : (n k : ℕ) → n < 18446744073709551616 → io.Fewest 10 1 n k → k ≤ 20
-no-more n k h f = go (decLt 20 k)
-  where
-    go : Dec (20 < k) → k ≤ 20
-    go (no l) = omega arith
-    go (yes l) =
-        let low : 10 ^ (k - 1) ≤ n = f .2 (omega arith) in
-        let up : 10 ^ 20 ≤ 10 ^ (k - 1) = pow-le-pow-right {n = 10} (omega arith) {i = 20} {j = k - 1} (omega arith) in
-        absurd (let z : ⊥ = omega arith in z)

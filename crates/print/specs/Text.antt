@@ -2,10 +2,10 @@
 use mathlib.Core.Path.{_≡_}
 use mathlib.Core.Bool.{cond}
 use mathlib.Core.List.{List, [], _∷_, _++_}
-use Prim.Native.Nat.{ℕ, zero, suc, _+_, _/_, _%_, _≤_}
+use Prim.Native.Nat.{ℕ, zero, suc, _+_, _-_, _/_, _%_, _≤_}
 use lib.Dec.{ltb}
 use lib.IntN.{ℤ, pos, negsuc}
-use lib.ListN.{length, take}
+use lib.ListN.{length, take, replicate}
 
 -- the last digits of a number, at most so many, and none before the first that is not 0
 unfoldable pub digits : ℕ → ℕ → List ℕ
@@ -20,6 +20,10 @@ decimalOf n = digits 20 n
 abbrev pub signedOf : ℤ → List ℕ
 signedOf (pos n) = decimalOf n
 signedOf (negsuc n) = 45 ∷ decimalOf (suc n)
+
+-- a number at the right end of so many bytes, blanks before it; one with more digits takes what it needs
+abbrev pub rightOf : ℕ → ℕ → List ℕ
+rightOf width n = replicate (width - length (decimalOf n)) 32 ++ decimalOf n
 
 -- The first `size` bytes of a buffer are the `at` that it had and then more bytes, as far as it has room.
 pub record Added (old : List ℕ) (at : ℕ) (bytes new : List ℕ) (size : ℕ) : Type 0 where

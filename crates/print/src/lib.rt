@@ -2,11 +2,11 @@
 // buffer and how many bytes the text has so far, and gives how many it then has. What finds no room is left out.
 ghost use mathlib.Core.Path.{_≡_};
 ghost use mathlib.Core.List.{[], _∷_, _++_};
-ghost use Prim.Native.Nat.{_≤_, min};
+ghost use Prim.Native.Nat.{_-_, _≤_, min};
 ghost use lib.IntN.{natAbs};
-ghost use lib.ListN.{length};
+ghost use lib.ListN.{length, replicate};
 ghost use Rattle.names.specs.Spelling.{spellingOf, rows};
-ghost use Rattle.print.specs.Text.{decimalOf, signedOf, Added};
+ghost use Rattle.print.specs.Text.{decimalOf, signedOf, rightOf, Added};
 use libc::STDOUT_FILENO;
 
 // Writes the first bytes of a buffer to standard output. No contract can say what is written.
@@ -59,6 +59,31 @@ pub fn number(out: &mut [u8], at: usize, n: u64, end: u8) -> usize
 {
     let after = decimal(out, at, n);
     byte(out, after, end)
+}
+
+fn difference(a: usize, b: usize) -> usize
+    ensures { λ r. ⌜ r ≡ a - b ⌝ }
+{
+    if b < a { a - b } else { 0 }
+}
+
+fn blanks(out: &mut [u8], at: usize, n: usize) -> usize
+    requires { ⌜ n ≤ 20 ⌝ }
+    ensures { λ r. ⌜ Added (now (out .entry)) at (replicate n 32) (now (out .exit)) r ⌝ }
+{
+    let twenty = [b' '; 20];
+    put(out, at, &twenty[..n])
+}
+
+// A number in decimal at the right end of so many bytes.
+pub fn right(out: &mut [u8], at: usize, n: u64, width: usize) -> usize
+    requires { ⌜ width ≤ 20 ⌝ }
+    ensures { λ r. ⌜ Added (now (out .entry)) at (rightOf width n) (now (out .exit)) r ⌝ }
+{
+    let mut digits = [0u8; 20];
+    let k = io::decimal(n, &mut digits);
+    let after = blanks(out, at, difference(width, k));
+    put(out, after, &digits[..k])
 }
 
 // A number without its sign.

@@ -1,5 +1,5 @@
 // Replays a list of answers of the Rust, on standard input: each case is a slice and what the Rust said of it. It prints
-// number, place and count of each slice that is refused and the number of each case in which the reader differs, and
+// number, place and count of each slice that is refused, the bits of the slots of each that is accepted, block by block, and the number of each case in which the reader differs, and
 // then how many cases there are and how many of each verdict, how many records their frames have, and how many cases differ.
 // Further slices follow; it prints their answers, and the records of some.
 //
@@ -11,6 +11,7 @@ mod cases;
 mod sums;
 
 use answer::Answer;
+use answer::SlotBits;
 use answer::Verdict;
 use cases::same;
 use ingest::cases::input_pair;
@@ -77,11 +78,41 @@ fn answered(answer: Answer) {
     write(&out, n);
 }
 
-// Number, place and count of a slice that is refused.
-fn refusal(answer: Answer) {
+// The bits of the slots of a block.
+fn bits_of_block(out: &mut [u8], at: usize, bits: [u16; 7]) -> usize {
+    let mut end = at;
+    let mut slot = 0;
+    while slot < 7 {
+        end = part(out, end, b" ", bits[slot] as u64);
+        slot += 1;
+    }
+    end
+}
+
+// The bits of the slots of a frame, block by block.
+fn slot_bits(blocks: [SlotBits; 6]) {
+    let mut out = [0u8; 320];
+    let mut at = put(&mut out, 0, b"bits");
+    let mut block = 0;
+    while block < 6 {
+        let of_block = blocks[block];
+        let bits = of_block.bits;
+        at = bits_of_block(&mut out, at, bits);
+        block += 1;
+    }
+    let at = put(&mut out, at, b"\n");
+    write(&out, at);
+}
+
+// Number, place and count of a slice that is refused; the bits of the slots of one that is accepted.
+fn told(answer: Answer) {
     let verdict = answer.verdict;
+    let frame = answer.frame;
     match verdict {
-        Verdict::Accepted => {}
+        Verdict::Accepted => {
+            let blocks = frame.slot_bits;
+            slot_bits(blocks);
+        }
         Verdict::Refused(_, _, _) => answered(answer),
     }
 }
@@ -92,7 +123,7 @@ fn one(t: Tally, case: usize) -> Tally {
     let theirs = answer();
     let t = counted(t, theirs);
     let r = records_of(&bytes[..n]);
-    refusal(r.answer);
+    told(r.answer);
     if same(r, theirs) {
         return t;
     }

@@ -2,19 +2,19 @@
 use mathlib.Core.List.{List}
 use Prim.Native.Nat.{ℕ, zero, suc, _+_, _*_, _%_, _≤_}
 use native.Mathlib.Omega.{arith}
-use lib.ListN.{length, getD, length-append}
+use lib.ListN.{length, length-append, length-replicate}
 use Rattle.names.specs.Names.{acmod, numblkscod}
 use Rattle.names.specs.Spelling.{bytes}
-use Rattle.tables.specs.Small.{nfchans}
-use Rattle.print.specs.Text.{decimalOf}
 use Rattle.print.proofs.Decimals.{few}
+use Rattle.columns.specs.Columns.{channelsOf}
+use Rattle.columns.proofs.Laws.{heading-short, few-channels}
 use Rattle.answer.specs.Answer.{countOf}
 use Rattle.answer.specs.declared.Verdict.{Verdict}
 use Rattle.answer.specs.declared.Verdict.the-variants.{Accepted, Refused}
 use Rattle.listing.specs.declared.Records.{Records}
 use Rattle.listing.proofs.Laws.{first-short}
 use Rattle.strategy_table.specs.Strategies.{channelOf, couplingOf, lfeOf, elementOf}
-use Rattle.strategy_table.specs.Table.{modes, namesOf, headingOf, cells, cellOf, labelOf, fullOf, rowOf, rowsOf, blocksOf, channelsOf, tableOf, textBy, textOf}
+use Rattle.strategy_table.specs.Table.{cells, cellOf, fullOf, rowOf, rowsOf, blocksOf, tableOf, textBy, textOf}
 
 cell-short : (s : ℕ) → length (cellOf s) ≤ 7
 unfolding cellOf cells bytes
@@ -24,39 +24,12 @@ cell-short (suc (suc zero)) = omega arith
 cell-short (suc (suc (suc zero))) = omega arith
 cell-short (suc (suc (suc (suc s)))) = omega arith
 
-names-short : (mode : ℕ) → length (namesOf mode) ≤ 35
-unfolding namesOf modes bytes
-names-short zero = omega arith
-names-short (suc zero) = omega arith
-names-short (suc (suc zero)) = omega arith
-names-short (suc (suc (suc zero))) = omega arith
-names-short (suc (suc (suc (suc zero)))) = omega arith
-names-short (suc (suc (suc (suc (suc zero))))) = omega arith
-names-short (suc (suc (suc (suc (suc (suc zero)))))) = omega arith
-names-short (suc (suc (suc (suc (suc (suc (suc mode))))))) = omega arith
-
 few-blocks : (code : ℕ) → blocksOf code ≤ 6
 unfolding blocksOf
 few-blocks zero = omega arith
 few-blocks (suc zero) = omega arith
 few-blocks (suc (suc zero)) = omega arith
 few-blocks (suc (suc (suc code))) = omega arith
-
-few-channels : (k : ℕ) → getD nfchans k 0 ≤ 5
-unfolding nfchans
-few-channels zero = omega arith
-few-channels (suc zero) = omega arith
-few-channels (suc (suc zero)) = omega arith
-few-channels (suc (suc (suc zero))) = omega arith
-few-channels (suc (suc (suc (suc zero)))) = omega arith
-few-channels (suc (suc (suc (suc (suc zero))))) = omega arith
-few-channels (suc (suc (suc (suc (suc (suc zero)))))) = omega arith
-few-channels (suc (suc (suc (suc (suc (suc (suc zero))))))) = omega arith
-few-channels (suc (suc (suc (suc (suc (suc (suc (suc k)))))))) = omega arith
-
-heading-short : (mode : ℕ) → length (headingOf mode) ≤ 55
-unfolding bytes
-heading-short mode = let h = names-short mode in simp length-append (omega arith)
 
 module _ (r : Records) (n : ℕ) where
   full-short : (block ch : ℕ) → length (fullOf r n block ch) ≤ 7 * ch
@@ -67,16 +40,15 @@ module _ (r : Records) (n : ℕ) where
       let k = cell-short (channelOf r n block ch) in
       rw length-append (omega arith)
 
-  row-short : (channels block : ℕ) → channels ≤ 5 → length (rowOf r n channels block) ≤ 74
-  unfolding bytes
+  row-short : (channels block : ℕ) → channels ≤ 5 → length (rowOf r n channels block) ≤ 75
   row-short channels block c =
       let d = few 20 block in
       let h = full-short block channels in
       let i = cell-short (couplingOf r n block) in
       let k = cell-short (lfeOf r n block) in
-      simp length-append (omega arith)
+      simp (length-append, length-replicate) (omega arith)
 
-  rows-short : (channels blocks : ℕ) → channels ≤ 5 → length (rowsOf r n channels blocks) ≤ 74 * blocks
+  rows-short : (channels blocks : ℕ) → channels ≤ 5 → length (rowsOf r n channels blocks) ≤ 75 * blocks
   unfolding rowsOf
   rows-short channels zero c = omega arith
   rows-short channels (suc block) c =
@@ -85,7 +57,7 @@ module _ (r : Records) (n : ℕ) where
       rw length-append (omega arith)
 
 module _ (r : Records) where
-  table-short : length (tableOf r) ≤ 499
+  table-short : length (tableOf r) ≤ 505
   table-short =
       let n = countOf (r .answer) in
       let mode = elementOf r n acmod in
@@ -93,7 +65,7 @@ module _ (r : Records) where
       let h = heading-short mode in
       let f = few-blocks (elementOf r n numblkscod) in
       let k = rows-short r n (channelsOf mode) b (few-channels (mode % 8)) in
-      rw length-append (omega arith)
+      simp length-append (omega arith)
 
   short-by : (v : Verdict) → length (textBy r v) ≤ 1024
   unfolding textBy

@@ -7,36 +7,15 @@ ghost use mathlib.Core.Path.{_≡_};
 ghost use Prim.Native.Nat.{_<_, _≤_};
 ghost use lib.ListN.{length};
 ghost use Rattle.print.specs.Text.{Added, Holds};
-ghost use Rattle.strategy_table.specs.Table.{namesOf, headingOf, cellOf, fullOf, labelOf, rowOf, rowsOf, blocksOf, channelsOf, tableOf, textOf};
+ghost use Rattle.strategy_table.specs.Table.{cellOf, fullOf, rowOf, rowsOf, blocksOf, tableOf, textOf};
 use answer::Verdict;
 use answer::count_of;
+use columns::full_channels;
+use columns::heading;
 use listing::Records;
 use names::numbers;
 use print::put;
-
-// The full bandwidth channels by acmod (A/52 table 5.8).
-fn channel_names(out: &mut [u8], at: usize, acmod: u32) -> usize
-    ensures { λ e. ⌜ Added (now (out .entry)) at (namesOf acmod) (now (out .exit)) e ⌝ }
-{
-    match acmod {
-        0 => put(out, at, b"    Ch1    Ch2"),
-        1 => put(out, at, b"      C"),
-        2 => put(out, at, b"      L      R"),
-        3 => put(out, at, b"      L      C      R"),
-        4 => put(out, at, b"      L      R      S"),
-        5 => put(out, at, b"      L      C      R      S"),
-        6 => put(out, at, b"      L      R     Ls     Rs"),
-        _ => put(out, at, b"      L      C      R     Ls     Rs"),
-    }
-}
-
-fn heading(out: &mut [u8], acmod: u32) -> usize
-    ensures { λ e. ⌜ Added (now (out .entry)) 0 (headingOf acmod) (now (out .exit)) e ⌝ }
-{
-    let at = put(out, 0, b"block    CPL");
-    let at = channel_names(out, at, acmod);
-    put(out, at, b"    LFE\n")
-}
+use print::right;
 
 fn cell(out: &mut [u8], at: usize, strategy: u8) -> usize
     ensures { λ e. ⌜ Added (now (out .entry)) at (cellOf strategy) (now (out .exit)) e ⌝ }
@@ -64,19 +43,11 @@ fn full(out: &mut [u8], at: usize, r: Records, count: usize, block: u8, nfchans:
     end
 }
 
-// The number of a block.
-fn label(out: &mut [u8], at: usize, block: u8) -> usize
-    ensures { λ e. ⌜ Added (now (out .entry)) at (labelOf block) (now (out .exit)) e ⌝ }
-{
-    let at = put(out, at, b"    ");
-    print::decimal(out, at, block as u64)
-}
-
 fn row(out: &mut [u8], at: usize, r: Records, count: usize, block: u8, nfchans: u8) -> usize
     requires { ⌜ block < 6 ⌝ }
     ensures { λ e. ⌜ Added (now (out .entry)) at (rowOf r count nfchans block) (now (out .exit)) e ⌝ }
 {
-    let at = label(out, at, block);
+    let at = right(out, at, block as u64, 5);
     let at = cell(out, at, grid::coupling(r, count, block));
     let at = full(out, at, r, count, block, nfchans);
     let at = cell(out, at, grid::lfe(r, count, block));
@@ -109,14 +80,6 @@ fn blocks(numblkscod: u32) -> u8
     }
 }
 
-// How many full bandwidth channels there are, by acmod.
-fn full_channels(acmod: u32) -> u8
-    ensures { λ r. ⌜ r ≡ channelsOf acmod ⌝ }
-{
-    let table = tables::nfchans();
-    table[acmod as usize % 8]
-}
-
 fn table(out: &mut [u8], r: Records) -> usize
     ensures { λ e. ⌜ Added (now (out .entry)) 0 (tableOf r) (now (out .exit)) e ⌝ }
 {
@@ -125,6 +88,7 @@ fn table(out: &mut [u8], r: Records) -> usize
     let count = count_of(verdict, answer.frame);
     let acmod = grid::element(r, count, numbers::ACMOD);
     let at = heading(out, acmod);
+    let at = put(out, at, b"\n");
     let numblks = blocks(grid::element(r, count, numbers::NUMBLKSCOD));
     rows(out, at, r, count, numblks, full_channels(acmod))
 }

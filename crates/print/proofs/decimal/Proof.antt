@@ -1,8 +1,7 @@
 -- The digits of the library are those of the definition.
-use mathlib.Core.Path.{_∙_}
 use native.Mathlib.Omega.{arith}
 use borrow.Author.Needs.{needs}
-use Rattle.print.proofs.Decimals.{fewest, no-more}
+use Rattle.print.proofs.Decimals.{library}
 use Rattle.print.proofs.Adding.{meant}
 use Rattle.print.proofs.decimal.Statement.{statement}
 use Rattle.print.proofs.decimal.Tie as tie
@@ -10,7 +9,7 @@ use Rattle.print.proofs.decimal.Tie as tie
 returns : tie.Need-returns
 returns c =
     let told = c .before .before .before .before .before .decimal .ensures in
-    meant (told .1 .1 ∙ fewest 20 (c .before .before .before .before .before .decimal .result) (c .before .before .before .before .before .before .before .before .args .n) (no-more (c .before .before .before .before .before .before .before .before .args .n) (c .before .before .before .before .before .decimal .result) (omega arith) (told .1 .0)) (told .1 .0)) (c .before .before .put .ensures)
+    meant (library _ (c .before .before .before .before .before .before .before .before .args .n) (c .before .before .before .before .before .decimal .result) (omega arith) (told .1 .0) (told .1 .1)) (c .before .before .put .ensures)
 
 pub decimal-spec : {M : Type 1} → statement M
 decimal-spec =

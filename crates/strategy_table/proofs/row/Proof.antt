@@ -8,7 +8,7 @@ use Rattle.strategy_table.proofs.row.Tie as tie
 
 returns : tie.Need-returns
 returns c =
-    c .before .before .before .before .before .before .before .before .before .before .before .before .before .before .before .before .before .before .before .before .before .label .ensures then meant (ap cellOf (c .before .before .before .before .before .before .before .before .before .before .before .before .before .before .before .before .before .coupling .ensures)) (c .before .before .before .before .before .before .before .before .before .before .before .before .before .before .before .before .cell .ensures) then c .before .before .before .before .before .before .before .before .before .before .before .before .full .ensures
+    c .before .before .before .before .before .before .before .before .before .before .before .before .before .before .before .before .before .before .before .before .before .right .ensures then meant (ap cellOf (c .before .before .before .before .before .before .before .before .before .before .before .before .before .before .before .before .before .coupling .ensures)) (c .before .before .before .before .before .before .before .before .before .before .before .before .before .before .before .before .cell .ensures) then c .before .before .before .before .before .before .before .before .before .before .before .before .full .ensures
     then meant (ap cellOf (c .before .before .before .before .before .before .before .before .lfe .ensures)) (c .before .before .before .before .before .before .before .cell2 .ensures) then c .before .before .put .ensures
 
 pub row-spec : {M : Type 1} → statement M

@@ -3,10 +3,10 @@ use mathlib.Core.Path.{sym, ap}
 use borrow.Author.Needs.{needs}
 use Rattle.names.specs.Spelling.{bytes}
 use Rattle.print.proofs.Adding.{meant}
-use Rattle.strategy_table.specs.Table.{modes, namesOf}
-use Rattle.strategy_table.proofs.TableLaws.{none-of-seven, all-names}
-use Rattle.strategy_table.proofs.channel_names.Statement.{statement}
-use Rattle.strategy_table.proofs.channel_names.Tie as tie
+use Rattle.columns.specs.Columns.{modes, namesOf}
+use Rattle.columns.proofs.Laws.{none-of-seven, all-names}
+use Rattle.columns.proofs.channel_names.Statement.{statement}
+use Rattle.columns.proofs.channel_names.Tie as tie
 
 returns : tie.Need-returns
 unfolding namesOf modes bytes

@@ -1,12 +1,13 @@
 -- One after the other.
 use borrow.Author.Needs.{needs}
 use Rattle.names.specs.Spelling.{bytes}
+use Rattle.columns.specs.Columns.{headingOf}
 use Rattle.print.proofs.Adding.{_then_}
-use Rattle.strategy_table.proofs.heading.Statement.{statement}
-use Rattle.strategy_table.proofs.heading.Tie as tie
+use Rattle.columns.proofs.heading.Statement.{statement}
+use Rattle.columns.proofs.heading.Tie as tie
 
 returns : tie.Need-returns
-unfolding bytes
+unfolding headingOf bytes
 returns c = c .before .before .before .before .before .before .before .before .before .before .before .put .ensures then c .before .before .before .before .before .before .before .channel-names .ensures then c .before .before .put2 .ensures
 
 pub heading-spec : {M : Type 1} → statement M
