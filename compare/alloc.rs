@@ -4,28 +4,16 @@
 #[allow(dead_code)]
 mod alloc;
 mod bitalloc_tables;
+mod random;
 #[allow(dead_code)]
 mod tables;
 use alloc as rust;
+use random::Random;
 use std::time::Instant;
 
 #[allow(improper_ctypes)]
 extern "C" {
     fn alloc_by_codes(exps: &[u8], out: &mut [u8], segments: &[[u8; 8]; 3], codes: &[u8; 14], start: usize, end: usize);
-}
-
-struct Random(u64);
-
-impl Random {
-    fn next(&mut self) -> u64 {
-        self.0 = self.0.wrapping_add(0x9e37_79b9_7f4a_7c15);
-        let mut z = self.0;
-        z = (z ^ (z >> 30)).wrapping_mul(0xbf58_476d_1ce4_e5b9);
-        z = (z ^ (z >> 27)).wrapping_mul(0x94d0_49bb_1331_11eb);
-        z ^ (z >> 31)
-    }
-    fn below(&mut self, n: u64) -> u64 { self.next() % n }
-    fn byte(&mut self, n: u64) -> u8 { self.below(n) as u8 }
 }
 
 #[derive(Clone)]

@@ -7,9 +7,11 @@ mod bitalloc_tables;
 mod bits;
 mod blocks;
 mod error;
+mod random;
 mod syntax;
 mod tables;
 use error::Error;
+use random::Random;
 use syntax::Cursor;
 
 #[allow(improper_ctypes)]
@@ -30,18 +32,7 @@ extern "C" {
     ) -> u8;
 }
 
-struct Random(u64);
-
 impl Random {
-    fn next(&mut self) -> u64 {
-        self.0 = self.0.wrapping_add(0x9e37_79b9_7f4a_7c15);
-        let mut z = self.0;
-        z = (z ^ (z >> 30)).wrapping_mul(0xbf58_476d_1ce4_e5b9);
-        z = (z ^ (z >> 27)).wrapping_mul(0x94d0_49bb_1331_11eb);
-        z ^ (z >> 31)
-    }
-    fn below(&mut self, n: u64) -> u64 { self.next() % n }
-    fn byte(&mut self, n: u64) -> u8 { self.below(n) as u8 }
     fn flag(&mut self) -> bool { self.below(2) == 0 }
     fn bytes(&mut self, n: usize) -> Vec<u8> {
         let sparse = self.below(3) == 0;                                         // few ones: more tags are met

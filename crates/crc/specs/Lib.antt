@@ -1,0 +1,4 @@
+pub mod Crc
+pub mod Checked
+pub mod Table
+pub mod Bytes
