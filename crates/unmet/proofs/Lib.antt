@@ -7,4 +7,5 @@ pub mod Sent
 pub mod Unmet
 pub mod Pointed
 pub mod Visited
+pub mod Recorded
 pub mod Bsid

@@ -1,0 +1,4 @@
+pub mod Items
+pub mod Bsid
+pub mod Widths
+pub mod Loudness

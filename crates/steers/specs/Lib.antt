@@ -1,0 +1,4 @@
+pub mod Blind
+pub mod Steering
+pub mod Writing
+pub mod Closing
