@@ -5,3 +5,4 @@ pub mod Answers
 pub mod Common
 pub mod Suffices
 pub mod SlotBits
+pub mod Loudness

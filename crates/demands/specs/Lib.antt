@@ -4,3 +4,4 @@ pub mod Gapless
 pub mod Common
 pub mod Suffices
 pub mod SlotBits
+pub mod Loudness
