@@ -37,7 +37,7 @@ impl Rooms {
         Rooms { names: vec![0; n], blocks: vec![0; n], indexes: vec![0; n], firsts: vec![0; n], widths: vec![0; n], values: vec![0; n] }
     }
 
-    fn fill(&mut self, len: [usize; 6], p: &Record) {
+    pub fn fill(&mut self, len: [usize; 6], p: &Record) {
         self.names[..len[0] + BEYOND].fill(p.name);
         self.blocks[..len[1] + BEYOND].fill(p.block);
         self.indexes[..len[2] + BEYOND].fill(p.index);
@@ -51,7 +51,7 @@ impl Rooms {
     }
 
     /// The first place at which the records are not these, or an entry past them is not the pattern.
-    fn differs(&self, len: [usize; 6], records: &[Record], p: &Record) -> Option<usize> {
+    pub fn differs(&self, len: [usize; 6], records: &[Record], p: &Record) -> Option<usize> {
         let n = records.len();
         if let Some(k) = (0..n).find(|&k| self.at(k) != records[k]) {
             return Some(k);
@@ -81,7 +81,7 @@ impl Rooms {
 }
 
 /// Two patterns in turn, neither of them a record.
-const PATTERNS: [Record; 2] = [
+pub const PATTERNS: [Record; 2] = [
     Record { name: 0xee, block: -77, index: -30584, first: 0xbeef, width: 0xcafe, value: 0xdead_beef },
     Record { name: 0x00, block: 0, index: 0, first: 0, width: 0, value: 0 },
 ];

@@ -1,8 +1,8 @@
-/* The E-AC-3 syncframe reader for C: link target/staticlib/libeac3_c.a (rt staticlib eac3_c), x86-64 Linux.
+/* The E-AC-3 syncframe reader for C, and what changes a frame: link target/staticlib/libeac3_c.a (rt staticlib eac3_c), x86-64 Linux.
  *
  * The caller owns every array; nothing is kept after the call, nothing is allocated, and the call may be made from
  * any number of threads at once. No array may overlap another. All lengths may be 0, and then the pointers are not read,
- * but must not be null. The function is proved to end with a defined answer for every slice and every room.
+ * but must not be null. Each function is proved to end with a defined answer for all arguments.
  */
 #ifndef EAC3_H
 #define EAC3_H
@@ -57,6 +57,22 @@ uint8_t eac3_parse(const uint8_t *data, size_t bytes,
                    uint16_t *widths, size_t widths_room,
                    uint32_t *values, size_t values_room,
                    uint64_t answer[EAC3_ANSWER]);
+
+/* Sets one loudness word of the frame at the beginning of `frame`: dialnorm, dialnorm2, compr, compr2, dynrng or dynrng2, by
+ * its place in the list (from 0), and puts crc2 right, also where it was wrong. No other bit changes; bytes behind the frame
+ * stay. The answer and the records are those of the new frame. A refusal changes no byte: those of eac3_parse; 41, the place
+ * is beyond the list; 42, the record there is not one of the six; 43, the value has more bits than the word (5 for dialnorm
+ * and dialnorm2, 8 for the others). After 41 to 43 the records are those of the frame as it is. Gives answer[EAC3_NUMBER].
+ */
+uint8_t eac3_set_word(uint8_t *frame, size_t bytes,
+                      uint8_t *names, size_t names_room,
+                      int8_t *blocks, size_t blocks_room,
+                      int16_t *indexes, size_t indexes_room,
+                      uint16_t *firsts, size_t firsts_room,
+                      uint16_t *widths, size_t widths_room,
+                      uint32_t *values, size_t values_room,
+                      size_t place, uint32_t value,
+                      uint64_t answer[EAC3_ANSWER]);
 
 #ifdef __cplusplus
 }

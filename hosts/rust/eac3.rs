@@ -1,10 +1,14 @@
-//! The E-AC-3 syncframe reader for Rust: a safe wrapper of the static library (rt staticlib eac3_c), without allocation.
+//! The E-AC-3 syncframe reader for Rust, and what changes a frame: a safe wrapper of the static library (rt staticlib eac3_c), without allocation.
 
 #[allow(improper_ctypes)]
 extern "C" {
     fn eac3_parse(
         data: &[u8], names: &mut [u8], blocks: &mut [i8], indexes: &mut [i16], firsts: &mut [u16], widths: &mut [u16], values: &mut [u32],
         answer: &mut [u64; 76],
+    ) -> u8;
+    fn eac3_set_word(
+        frame: &mut [u8], names: &mut [u8], blocks: &mut [i8], indexes: &mut [i16], firsts: &mut [u16], widths: &mut [u16], values: &mut [u32],
+        place: usize, value: u32, answer: &mut [u64; 76],
     ) -> u8;
 }
 
@@ -100,6 +104,25 @@ pub fn parse<const N: usize>(data: &[u8], room: &mut Room<N>) -> Result<Frame, R
             data, &mut room.names, &mut room.blocks, &mut room.indexes, &mut room.firsts, &mut room.widths, &mut room.values, &mut a,
         )
     };
+    told(number, &a)
+}
+
+/// Sets one loudness word of the frame at the beginning of `data`, by its place in the list, and puts crc2 right. The frame and
+/// the records in the room are those of the new frame; a refusal changes no byte.
+pub fn set_word<const N: usize>(data: &mut [u8], room: &mut Room<N>, place: usize, value: u32) -> Result<Frame, Refusal> {
+    let mut a = [0u64; 76];
+    // Likewise, for every place and every value.
+    let number = unsafe {
+        eac3_set_word(
+            data, &mut room.names, &mut room.blocks, &mut room.indexes, &mut room.firsts, &mut room.widths, &mut room.values, place, value,
+            &mut a,
+        )
+    };
+    told(number, &a)
+}
+
+/// What an answer says.
+fn told(number: u8, a: &[u64; 76]) -> Result<Frame, Refusal> {
     if number != 0 {
         return Err(Refusal { number, place: a[1] as u16, records: a[2] as usize });
     }

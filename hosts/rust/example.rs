@@ -1,4 +1,5 @@
 //! Reads one frame from standard input and prints how many bits its records of each block take, and how many its mantissas, slot by slot.
+#[allow(dead_code)]
 mod eac3;
 use std::io::Read;
 

@@ -36,6 +36,6 @@ bits-all m ts x i ex ei = ex ∙ ap (bitsLaid m ts) ei
 pub also : {x y : ℕ} {xs ys : List ℕ} → x ≡ y → xs ≡ ys → (x ∷ xs) ≡ (y ∷ ys)
 also e es = ap₂ _∷_ e es
 
--- numbers written, and what they are of an answer a, which is the answer A of a definition
-pub laid-are : (m x y vs : List ℕ) (n p k : ℕ) {a A : Answer} → y ≡ bitsLaid x (a .frame .«slot_bits») 6 → x ≡ laid m n p k vs → n ≡ numberOf a → p ≡ placeOf a → k ≡ countOf a → vs ≡ frameNumbers (a .frame) → a ≡ A → y ≡ laidOf m A
-laid-are m x y vs n p k d e f g h i j = d ∙ rw e (rw f (rw g (rw h (rw i (ap (laidOf m) j)))))
+-- numbers written, and what they are of an answer
+pub laid-are : (m x y vs : List ℕ) (n p k : ℕ) (a : Answer) → y ≡ bitsLaid x (a .frame .«slot_bits») 6 → x ≡ laid m n p k vs → n ≡ numberOf a → p ≡ placeOf a → k ≡ countOf a → vs ≡ frameNumbers (a .frame) → y ≡ laidOf m a
+laid-are m x y vs n p k a d e f g h i = d ∙ rw e (rw f (rw g (rw h (rw i refl))))

@@ -11,6 +11,8 @@ use Rattle.answer.specs.Answer.{placeAt, answerOf, numberOf, placeOf, countOf}
 use Rattle.answer.specs.declared.Answer.{Answer}
 use Rattle.answer.specs.declared.Frame.{Frame}
 use Rattle.answer.specs.declared.SlotBits.{SlotBits}
+use Rattle.eac3.specs.Called.{answered}
+use Rattle.mastering.specs.SetWord.{answerSet, bytesSet, roomSet}
 
 abbrev pub bitOf : Bool → ℕ
 bitOf true = 1
@@ -86,3 +88,10 @@ pub record Given (o : Out State) (r : ℕ) (m : Room) (before after : List ℕ) 
   pub number : r ≡ numberOf (answerOf o)
   pub left : m ≡ o .left
   pub answer : after ≡ laidOf before (answerOf o)
+
+-- what the function that sets a word tells: the number, the bytes and the room then, and the answer
+pub record WordGiven (s : List ℕ) (m : Room) (i v r : ℕ) (s′ : List ℕ) (m′ : Room) (before after : List ℕ) : Type 0 where
+  pub number : r ≡ numberOf (answerSet s (answered s m) i v)
+  pub bytes : s′ ≡ bytesSet s (answered s m) i v
+  pub left : m′ ≡ roomSet s (answered s m) i v
+  pub answer : after ≡ laidOf before (answerSet s (answered s m) i v)

@@ -1,14 +1,17 @@
-// The reader for hosts outside: one C function over slices and numbers.
+// The entries for hosts outside: C functions over slices and numbers.
 ghost use mathlib.Core.Path.{_≡_};
 ghost use Prim.Native.Nat.{_≤_};
 ghost use Rattle.reading.specs.Room.{room};
+ghost use Rattle.answer.specs.Answer.{numberOf};
 ghost use Rattle.eac3.specs.Called.{answered};
-ghost use Rattle.eac3_c.specs.Numbers.{bitOf, frameNumbers, written, laid, bitsLaid, Given};
+ghost use Rattle.eac3_c.specs.Numbers.{bitOf, frameNumbers, written, laid, bitsLaid, laidOf, Given, WordGiven};
+use answer::Answer;
 use answer::Frame;
 use answer::SlotBits;
 use answer::count_of;
 use answer::number_of;
 use answer::place_of;
+use mastering::set_word;
 
 fn wide(x: u16) -> u64
     ensures { λ r. ⌜ r ≡ x ⌝ }
@@ -102,6 +105,21 @@ fn lay_bits(out: &mut [u64; 76], slots: [SlotBits; 6])
     }
 }
 
+// Writes an answer, and gives its number.
+fn tell(out: &mut [u64; 76], a: Answer) -> u8
+    ensures { λ r. ⌜ (r ≡ numberOf a) × (now (out .exit) ≡ laidOf (now (out .entry)) a) ⌝ }
+{
+    let v = a.verdict;
+    let f = a.frame;
+    let number = number_of(v);
+    let place = place_of(v, f);
+    let count = count_of(v, f);
+    lay(out, number as u64, place as u64, count as u64, numbers(f));
+    let slots = f.slot_bits;
+    lay_bits(out, slots);
+    number
+}
+
 // One frame at the beginning of `src`. Gives 0 for an accepted frame, or the number of the refusal; the answer says more.
 #[no_mangle]
 pub extern "C" fn eac3_parse(
@@ -118,19 +136,37 @@ pub extern "C" fn eac3_parse(
         (room (now (names .exit)) (now (blocks .exit)) (now (indexes .exit)) (now (firsts .exit)) (now (widths .exit)) (now (values .exit))) (now (answer .entry)) (now (answer .exit)) ⌝ }
 {
     let a = eac3::parse(src, names, blocks, indexes, firsts, widths, values);
-    let v = a.verdict;
-    let f = a.frame;
-    let number = number_of(v);
-    let place = place_of(v, f);
-    let count = count_of(v, f);
-    lay(
-        answer,
-        number as u64,
-        place as u64,
-        count as u64,
-        numbers(f),
+    tell(answer, a)
+}
+
+// Sets one loudness word of the frame at the beginning of `frame`, and crc2. Gives 0, or the number of the refusal; the
+// answer says more.
+#[no_mangle]
+pub extern "C" fn eac3_set_word(
+    frame: &mut [u8],
+    names: &mut [u8],
+    blocks: &mut [i8],
+    indexes: &mut [i16],
+    firsts: &mut [u16],
+    widths: &mut [u16],
+    values: &mut [u32],
+    place: usize,
+    value: u32,
+    answer: &mut [u64; 76],
+) -> u8
+    ensures { λ r. ⌜ WordGiven (now (frame .entry)) (room (now (names .entry)) (now (blocks .entry)) (now (indexes .entry)) (now (firsts .entry)) (now (widths .entry)) (now (values .entry))) place value r (now (frame .exit))
+        (room (now (names .exit)) (now (blocks .exit)) (now (indexes .exit)) (now (firsts .exit)) (now (widths .exit)) (now (values .exit))) (now (answer .entry)) (now (answer .exit)) ⌝ }
+{
+    let a = set_word(
+        frame,
+        names,
+        blocks,
+        indexes,
+        firsts,
+        widths,
+        values,
+        place,
+        value,
     );
-    let slots = f.slot_bits;
-    lay_bits(answer, slots);
-    number
+    tell(answer, a)
 }

@@ -2,17 +2,17 @@
 use mathlib.Core.Path.{ap, _∙_}
 use Rattle.answer.specs.Answer.{numberOf}
 use Rattle.answer.specs.declared.Answer.{Answer}
-use Rattle.eac3_c.proofs.Laying.{laid-are}
+use Rattle.eac3_c.specs.Numbers.{laidOf}
 use borrow.Author.Needs.{needs}
 use Rattle.eac3_c.proofs.eac3_parse.Statement.{statement}
 use Rattle.eac3_c.proofs.eac3_parse.Tie as tie
 
 returns : tie.Need-returns
-returns c = record { number = c .before .before .before .before .before .before .before .before .number-of .ensures ∙ ap (λ (a : Answer). numberOf a) (c .before .before .before .before .before .before .before .before .before .before .before .before .before .before .before .before .before .before .before .before .parse .ensures .answer); left = c .before .before .before .before .before .before .before .before .before .before .before .before .before .before .before .before .before .before .before .before .parse .ensures .left; answer = laid-are _ _ _ _ _ _ _ (c .lay-bits .ensures) (c .before .before .before .lay .ensures) (c .before .before .before .before .before .before .before .before .number-of .ensures) (c .before .before .before .before .before .before .before .place-of .ensures) (c .before .before .before .before .before .before .count-of .ensures) (c .before .before .before .before .numbers .ensures) (c .before .before .before .before .before .before .before .before .before .before .before .before .before .before .before .before .before .before .before .before .parse .ensures .answer) }
+returns c = record {
+  number = c .tell .ensures .0 ∙ ap (λ (a : Answer). numberOf a) (c .before .before .before .before .before .before .before .before .before .before .before .before .parse .ensures .answer);
+  left = c .before .before .before .before .before .before .before .before .before .before .before .before .parse .ensures .left;
+  answer = c .tell .ensures .1 ∙ ap (λ (a : Answer). laidOf (c .before .before .before .before .before .before .before .before .before .before .before .before .before .before .before .before .before .before .before .before .before .before .before .before .args .answer .now) a) (c .before .before .before .before .before .before .before .before .before .before .before .before .parse .ensures .answer);
+}
 
 pub eac3-parse-spec : {M : Type 1} → statement M
-eac3-parse-spec =
-    tie.close (tie.spec (λ c κs. search needs) (λ c κs. search needs) (λ c κs. search needs) (λ c κs. search needs)
-    (λ c. search needs) (λ c. search needs) (λ c κs. search needs) (λ c κs. search needs) (λ c κs. search needs)
-    (λ c. search needs) (λ c. search needs) (λ c. search needs) (λ c. search needs) (λ c. search needs)
-    (λ c. search needs) returns)
+eac3-parse-spec = tie.close (tie.spec (λ c κs. search needs) (λ c κs. search needs) (λ c. search needs) (λ c. search needs) (λ c. search needs) (λ c. search needs) (λ c. search needs) (λ c. search needs) returns)

@@ -1,0 +1,11 @@
+-- By the callees.
+use borrow.Author.Needs.{needs}
+use Rattle.eac3_c.proofs.Laying.{laid-are}
+use Rattle.eac3_c.proofs.tell.Statement.{statement}
+use Rattle.eac3_c.proofs.tell.Tie as tie
+
+returns : tie.Need-returns
+returns c = (c .before .before .before .before .before .before .before .before .number-of .ensures, laid-are _ _ _ _ _ _ _ (c .before .before .before .before .before .before .before .before .before .before .args .a) (c .lay-bits .ensures) (c .before .before .before .lay .ensures) (c .before .before .before .before .before .before .before .before .number-of .ensures) (c .before .before .before .before .before .before .before .place-of .ensures) (c .before .before .before .before .before .before .count-of .ensures) (c .before .before .before .before .numbers .ensures))
+
+pub tell-spec : {M : Type 1} → statement M
+tell-spec = tie.close (tie.spec (λ c κs. search needs) (λ c κs. search needs) (λ c κs. search needs) (λ c. search needs) (λ c. search needs) (λ c κs. search needs) (λ c κs. search needs) (λ c κs. search needs) returns)

@@ -1,0 +1,2 @@
+pub mod SetWord
+pub mod Listed
