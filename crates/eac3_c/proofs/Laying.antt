@@ -1,13 +1,22 @@
 -- Numbers written one after another. Assumes nothing.
-use mathlib.Core.Path.{_≡_, refl, ap, ap₂, _∙_}
+use mathlib.Core.Path.{_≡_, refl, sym, ap, ap₂, subst, _∙_}
+use mathlib.Core.Bool.{Bool, true, false, cond}
 use mathlib.Core.List.{List, _∷_}
 use Prim.Native.Nat.{ℕ, _+_, _*_}
 use native.Mathlib.Numerals.{add-one}
-use lib.ListN.{getD, set}
+use lib.Dec.{eqb}
+use lib.ListN.{getD, set, replicate}
+use Rattle.reading.specs.Run.{Result, accepted, refused}
+use Rattle.reading.specs.Room.{Room, Out}
+use Rattle.cells.specs.Cells.{State}
 use Rattle.answer.specs.declared.Answer.{Answer}
+use Rattle.answer.specs.declared.Frame.{Frame}
 use Rattle.answer.specs.declared.SlotBits.{SlotBits}
-use Rattle.eac3_c.specs.Numbers.{written, laid, blockBits, bitsLaid, laidOf, frameNumbers}
-use Rattle.answer.specs.Answer.{numberOf, placeOf, countOf}
+use Rattle.answer.specs.declared.Verdict.the-variants.{Refused}
+use Rattle.eac3.specs.Called.{answered}
+use Rattle.mastering.specs.SetWord.{acceptedBy, answerWith, number, answerSet, WordSet}
+use Rattle.eac3_c.specs.Numbers.{written, laid, blockBits, bitsLaid, laidOf, frameNumbers, Bare}
+use Rattle.answer.specs.Answer.{placeAt, nothing, answerBy, answerOf, numberOf, placeOf, countOf}
 
 pub written-none : (m : List ℕ) (k : ℕ) (vs : List ℕ) → m ≡ written m k vs 0
 unfolding written
@@ -39,3 +48,37 @@ also e es = ap₂ _∷_ e es
 -- numbers written, and what they are of an answer
 pub laid-are : (m x y vs : List ℕ) (n p k : ℕ) (a : Answer) → y ≡ bitsLaid x (a .frame .«slot_bits») 6 → x ≡ laid m n p k vs → n ≡ numberOf a → p ≡ placeOf a → k ≡ countOf a → vs ≡ frameNumbers (a .frame) → y ≡ laidOf m a
 laid-are m x y vs n p k a d e f g h i = d ∙ rw e (rw f (rw g (rw h (rw i refl))))
+
+-- those of a refusal: its frame's numbers are 0
+none-numbers : frameNumbers nothing ≡ replicate 31 0
+unfolding frameNumbers
+none-numbers = refl
+
+pub laid-none : (m x y : List ℕ) (n p k : ℕ) (a : Answer) → a .frame ≡ nothing → y ≡ bitsLaid x (nothing .«slot_bits») 6 → x ≡ laid m n p k (replicate 31 0) → n ≡ numberOf a → p ≡ placeOf a → k ≡ countOf a → y ≡ laidOf m a
+laid-none m x y n p k a e d f g h i =
+    laid-are m x y (replicate 31 0) n p k a (d ∙ ap (λ (f : Frame). bitsLaid x (f .«slot_bits») 6) (sym e)) f g h i (sym none-numbers ∙ ap frameNumbers (sym e))
+
+-- the answers of a reading, and of a word that is set, have no frame where they are refusals
+bare-by : (r : Result State) (p n : ℕ) → Bare (answerBy r p n)
+bare-by (accepted st) p n h = absurd (h refl)
+bare-by (refused k) p n h = refl
+
+pub bare-answer : (o : Out State) → Bare (answerOf o)
+unfolding answerOf
+bare-answer o = bare-by (o .result) (o .place) (o .count)
+
+bare-with : (b : Bool) (a : Answer) (k n : ℕ) → Bare a → Bare (cond b a (record { verdict = Refused k (placeAt 0) n; frame = nothing }))
+bare-with true a k n h = h
+bare-with false a k n h = λ _. refl
+
+bare-or : (b : Bool) (a c : Answer) → Bare a → Bare c → Bare (cond b a c)
+bare-or true a c h k = h
+bare-or false a c h k = k
+
+bare-set : (s : List ℕ) (o : Out State) (i v : ℕ) → Bare (answerSet s o i v)
+bare-set s o i v =
+    let k = number s o i v in
+    bare-or (acceptedBy (answerOf o .verdict)) (answerWith (answerOf o) k (o .count)) (answerOf o) (bare-with (eqb k 0) (answerOf o) k (o .count) (bare-answer o)) (bare-answer o)
+
+pub bare-word : {s : List ℕ} {m : Room} {i v : ℕ} {a : Answer} {s′ : List ℕ} {m′ : Room} → WordSet s m i v a s′ m′ → Bare a
+bare-word {s} {m} {i} {v} h = subst Bare (sym (h .answer)) (bare-set s (answered s m) i v)

@@ -7,7 +7,7 @@ use lib.ListN.{getD, set}
 use Rattle.reading.specs.Room.{Room, Out}
 use Rattle.cells.specs.Cells.{State}
 use Rattle.bits.specs.declared.BitPlace.{BitPlace}
-use Rattle.answer.specs.Answer.{placeAt, answerOf, numberOf, placeOf, countOf}
+use Rattle.answer.specs.Answer.{placeAt, nothing, answerOf, numberOf, placeOf, countOf}
 use Rattle.answer.specs.declared.Answer.{Answer}
 use Rattle.answer.specs.declared.Frame.{Frame}
 use Rattle.answer.specs.declared.SlotBits.{SlotBits}
@@ -82,6 +82,10 @@ bitsLaid m ts (suc n) = written (bitsLaid m ts n) (34 + 7 * n) (blockBits ts n) 
 
 abbrev pub laidOf : List ℕ → Answer → List ℕ
 laidOf m a = bitsLaid (laid m (numberOf a) (placeOf a) (countOf a) (frameNumbers (a .frame))) (a .frame .«slot_bits») 6
+
+-- an answer that has no frame where it is a refusal
+abbrev pub Bare : Answer → Type 0
+Bare a = ¬ (numberOf a ≡ 0) → a .frame ≡ nothing
 
 -- what the function tells: the number, the room as the reading left it, and the answer
 pub record Given (o : Out State) (r : ℕ) (m : Room) (before after : List ℕ) : Type 0 where

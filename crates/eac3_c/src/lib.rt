@@ -4,7 +4,7 @@ ghost use Prim.Native.Nat.{_≤_};
 ghost use Rattle.reading.specs.Room.{room};
 ghost use Rattle.answer.specs.Answer.{numberOf};
 ghost use Rattle.eac3.specs.Called.{answered};
-ghost use Rattle.eac3_c.specs.Numbers.{bitOf, frameNumbers, written, laid, bitsLaid, laidOf, Given, WordGiven};
+ghost use Rattle.eac3_c.specs.Numbers.{bitOf, frameNumbers, written, laid, bitsLaid, laidOf, Bare, Given, WordGiven};
 use answer::Answer;
 use answer::Frame;
 use answer::SlotBits;
@@ -105,8 +105,9 @@ fn lay_bits(out: &mut [u64; 76], slots: [SlotBits; 6])
     }
 }
 
-// Writes an answer, and gives its number.
+// Writes an answer, and gives its number. A refusal has no frame, whose numbers are not looked at.
 fn tell(out: &mut [u64; 76], a: Answer) -> u8
+    requires { ⌜ Bare a ⌝ }
     ensures { λ r. ⌜ (r ≡ numberOf a) × (now (out .exit) ≡ laidOf (now (out .entry)) a) ⌝ }
 {
     let v = a.verdict;
@@ -114,9 +115,14 @@ fn tell(out: &mut [u64; 76], a: Answer) -> u8
     let number = number_of(v);
     let place = place_of(v, f);
     let count = count_of(v, f);
-    lay(out, number as u64, place as u64, count as u64, numbers(f));
-    let slots = f.slot_bits;
-    lay_bits(out, slots);
+    if number == 0 {
+        lay(out, number as u64, place as u64, count as u64, numbers(f));
+        let slots = f.slot_bits;
+        lay_bits(out, slots);
+        return number;
+    }
+    lay(out, number as u64, place as u64, count as u64, [0; 31]);
+    lay_bits(out, [SlotBits { bits: [0; 7] }; 6]);
     number
 }
 

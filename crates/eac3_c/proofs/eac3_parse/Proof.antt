@@ -1,11 +1,15 @@
 -- By the callees.
-use mathlib.Core.Path.{ap, _∙_}
+use mathlib.Core.Path.{ap, sym, subst, _∙_}
 use Rattle.answer.specs.Answer.{numberOf}
 use Rattle.answer.specs.declared.Answer.{Answer}
-use Rattle.eac3_c.specs.Numbers.{laidOf}
+use Rattle.eac3_c.specs.Numbers.{laidOf, Bare}
 use borrow.Author.Needs.{needs}
+use Rattle.eac3_c.proofs.Laying.{bare-answer}
 use Rattle.eac3_c.proofs.eac3_parse.Statement.{statement}
 use Rattle.eac3_c.proofs.eac3_parse.Tie as tie
+
+tell-requires : tie.Need-tell-requires
+tell-requires c κs = subst Bare (sym (c .before .before .before .before .before .before .before .before .before .before .before .parse .ensures .answer)) (bare-answer _)
 
 returns : tie.Need-returns
 returns c = record {
@@ -15,4 +19,4 @@ returns c = record {
 }
 
 pub eac3-parse-spec : {M : Type 1} → statement M
-eac3-parse-spec = tie.close (tie.spec (λ c κs. search needs) (λ c κs. search needs) (λ c. search needs) (λ c. search needs) (λ c. search needs) (λ c. search needs) (λ c. search needs) (λ c. search needs) returns)
+eac3-parse-spec = tie.close (tie.spec (λ c κs. search needs) tell-requires (λ c. search needs) (λ c. search needs) (λ c. search needs) (λ c. search needs) (λ c. search needs) (λ c. search needs) returns)

@@ -4,8 +4,12 @@ use Rattle.answer.specs.Answer.{numberOf}
 use Rattle.answer.specs.declared.Answer.{Answer}
 use Rattle.eac3_c.specs.Numbers.{laidOf}
 use borrow.Author.Needs.{needs}
+use Rattle.eac3_c.proofs.Laying.{bare-word}
 use Rattle.eac3_c.proofs.eac3_set_word.Statement.{statement}
 use Rattle.eac3_c.proofs.eac3_set_word.Tie as tie
+
+tell-requires : tie.Need-tell-requires
+tell-requires c κs = bare-word (c .before .before .before .before .before .before .before .before .before .before .before .before .before .set-word .ensures)
 
 returns : tie.Need-returns
 returns c = record {
@@ -16,4 +20,4 @@ returns c = record {
 }
 
 pub eac3-set-word-spec : {M : Type 1} → statement M
-eac3-set-word-spec = tie.close (tie.spec (λ c κs. search needs) (λ c κs. search needs) (λ c. search needs) (λ c. search needs) (λ c. search needs) (λ c. search needs) (λ c. search needs) (λ c. search needs) (λ c. search needs) returns)
+eac3-set-word-spec = tie.close (tie.spec (λ c κs. search needs) tell-requires (λ c. search needs) (λ c. search needs) (λ c. search needs) (λ c. search needs) (λ c. search needs) (λ c. search needs) (λ c. search needs) returns)
