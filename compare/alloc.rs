@@ -86,15 +86,20 @@ fn rust_parts(i: &Input) -> ([i16; 256], Vec<rust::DeltaSeg>) {
     (exp, (0..i.n).map(|k| rust::DeltaSeg { offset: i.segments[0][k], len: i.segments[1][k], ba: i.segments[2][k] }).collect())
 }
 
-fn time(name: &str, runs: u32, mut f: impl FnMut() -> u64) {
-    let mut best = f64::MAX;
-    let mut sum = 0;
-    for _ in 0..5 {
-        let t = Instant::now();
-        for _ in 0..runs { sum = f().wrapping_add(sum) }
-        best = best.min(t.elapsed().as_nanos() as f64 / f64::from(runs));
-    }
-    println!("{name}: {best:.0} ns a call ({sum})");
+// The time of one call in ns, over `runs` calls.
+fn once(runs: u32, f: &mut impl FnMut() -> u64) -> f64 {
+    let t = Instant::now();
+    for _ in 0..runs { std::hint::black_box(f()); }
+    t.elapsed().as_nanos() as f64 / f64::from(runs)
+}
+
+// Both in turn, 11 times: the least and the median of each, and how the medians compare.
+fn time(name: &str, runs: u32, mut ours: impl FnMut() -> u64, mut theirs: impl FnMut() -> u64) {
+    let (mut a, mut b) = (Vec::new(), Vec::new());
+    for _ in 0..11 { a.push(once(runs, &mut ours)); b.push(once(runs, &mut theirs)) }
+    a.sort_by(f64::total_cmp);
+    b.sort_by(f64::total_cmp);
+    println!("{name}: ours {:.0} ns a call, Rust {:.0}, ratio {:.2} (medians; least {:.0} and {:.0})", a[5], b[5], a[5] / b[5], a[0], b[0]);
 }
 
 fn main() {
@@ -124,8 +129,8 @@ fn main() {
         for k in 0..256 { i.exps[k] = (3 + k / 20 + k % 3) as u8 }
         let (exp, delta) = rust_parts(&i);
         let mut out = [0u8; 256];
-        time(&format!("ours, {name}"), 100_000, || { ours(std::hint::black_box(&i), &mut out); u64::from(out[100]) });
-        time(&format!("Rust, {name}"), 100_000, || u64::from(theirs(std::hint::black_box(&i), &exp, &delta).get(100).copied().unwrap_or(0)));
+        time(name, 100_000, || { ours(std::hint::black_box(&i), &mut out); u64::from(out[100]) },
+            || u64::from(theirs(std::hint::black_box(&i), &exp, &delta).get(100).copied().unwrap_or(0)));
     }
     std::process::exit(i32::from(differ != 0));
 }

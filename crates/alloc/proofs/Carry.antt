@@ -19,7 +19,7 @@ use Rattle.tables.specs.Steps.{steps}
 use Rattle.tables.proofs.Bins.{own-band, bands-rise}
 use Rattle.tables.proofs.Stepped.{length-steps, steps-at}
 use Rattle.alloc.specs.Allocation.{maxZ, floored, firstIn, lastIn, psd, logadd, sum, bndpsd, calcLowcomp, lfeLast, decayFrom, begin, fastleak, slowleak, lowcomp, excite, masked, covers, deltaed, stepped, address, tableOf, snroffset, mask, pointer, allocation, fastOf, slowOf}
-use Rattle.alloc.specs.Levels.{value, psdL, logaddL, apart, sumL, bndpsdL, bndpsdsL, lowcompL, nextLowL, decayFromL, beginL, fastL, slowL, lowL, exciteL, maskedL, hearL, deltaedL, placeL, maskL, placesL, placesOf, pointerL, allocationL, baseOf, gainsOf, leaksOf, levelOf, levelsOf}
+use Rattle.alloc.specs.Levels.{value, psdL, logaddL, apart, sumL, bndpsdL, bndpsdsL, stepsBelow, psdsL, rangeL, lowcompL, nextLowL, decayFromL, beginL, fastL, slowL, lowL, exciteL, maskedL, hearL, deltaedL, placeL, maskL, placesL, placesOf, pointerL, allocationL, baseOf, gainsOf, leaksOf, levelOf, levelsOf}
 use Rattle.alloc.specs.Premises.{Exponents, Tuned, Channelled}
 use Rattle.alloc.specs.declared.Channel.{Channel}
 use Rattle.alloc.specs.declared.Deltas.{Deltas}
@@ -338,8 +338,16 @@ module _ (kind : Pointers) (exp : List ℕ) (c : Channel) (q : Params) (l : Leak
       ∙ ap (λ y. deltaed d b y (d .n))
       (value-mask e (getD bnd b 0) q (c .csnroffst) (c .fsnroffst) b ∙ ap₂ (λ y z. masked y z q b) x (bnd-reads b k)))
 
+  power-at : (j : ℕ) → c .start ≤ j → j < c .end → getD (psdsL exp (c .start) (c .end)) j 0 ≡ 4 * getD exp j 0
+  unfolding psdsL
+  power-at j h k =
+      let e = ready .low j h k in
+      getD-tab (λ i. cond (leb (c .start) i && ltb i (c .end)) (stepsBelow (psdL (getD exp i 0))) 0) 256 j (omega (arith, channel .within))
+      ∙ within (c .start) (c .end) j _ 0 h k
+      ∙ (let z : stepsBelow (psdL (getD exp j 0)) ≡ 4 * getD exp j 0 = omega arith in z)
+
   pointer-reads : (j : ℕ) → c .start ≤ j → j < c .end
-      → pointerL (steps baptab 0 512 ++ steps hebaptab 0 512) (baseOf kind) exp (placesOf exp (c .start) (c .end) (gainsOf (c .fgain) q) (leaksOf l) (levelsOf q (c .csnroffst) (c .fsnroffst)) d) j
+      → pointerL (steps baptab 0 512 ++ steps hebaptab 0 512) (baseOf kind) (rangeL exp (c .start) (c .end) .powers) (placesOf exp (c .start) (c .end) (gainsOf (c .fgain) q) (leaksOf l) (levelsOf q (c .csnroffst) (c .fsnroffst)) d) j
       ≡ pointer kind exp c q l d j
   unfolding placesOf
   pointer-reads j h k =
@@ -355,7 +363,7 @@ module _ (kind : Pointers) (exp : List ℕ) (c : Channel) (q : Params) (l : Leak
       let at = places-at (gainsOf (c .fgain) q) (leaksOf l) s d bnd first last (bandOf j) lo (omega arith) (b .is) in
       let e = ready .low j h k in
       let f = level-is (q .floor) (tuned .least) (tuned .most) in
-      ap (λ p. getD (steps baptab 0 512 ++ steps hebaptab 0 512) (baseOf kind + p + 4 * getD exp j 0) 0) at
+      ap₂ (λ p x. getD (steps baptab 0 512 ++ steps hebaptab 0 512) (baseOf kind + p + x) 0) at (power-at j h k)
       ∙ ap (λ t. getD (steps baptab 0 512 ++ steps hebaptab 0 512) t 0) (add-assoc (baseOf kind) (placeL m (s .snr) (s .floor)) (4 * getD exp j 0))
       ∙ table-at kind (placeL m (s .snr) (s .floor) + 4 * getD exp j 0) (omega arith)
       ∙ ap (λ x. getD (tableOf kind) x 0)

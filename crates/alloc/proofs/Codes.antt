@@ -47,4 +47,4 @@ module _ (l : Leak) (f s : ℕ) (e : l ≡ Pair f s) (low : (fastOf l ≤ 2560) 
   slow-fits = record { fits = omega (arith, parts) }
 
   pub leaks-pair : (_≡_ {A = Leaks} (record { fast = 8192 + f; slow = 8192 + s }) (leaksOf l)) × Leaking (record { fast = 8192 + f; slow = 8192 + s })
-  leaks-pair = (rw e refl, record { fast = omega (arith, parts); slow = omega (arith, parts) })
+  leaks-pair = (rw e refl, record { fast = omega (arith, parts); slow = omega (arith, parts); fast-least = omega arith; slow-least = omega arith })

@@ -79,6 +79,14 @@ bndpsd exp start end k =
     (sum exp (firstIn start k) (lastIn end k - firstIn start k - 1))
     (pos 0)
 
+-- powers and sums of the range up to bin n: psd of its bins start .. n - 1, and bndpsd of the bands as far as these bins go
+pub record Range : Type 0 where
+  pub powers : ℕ → ℤ
+  pub sums : ℕ → ℤ
+
+abbrev pub rangeTo : List ℕ → ℕ → ℕ → Range
+rangeTo exp start n = record { powers = λ bin. psd (getD exp bin 0); sums = bndpsd exp start n }
+
 -- 7.2.2.4: calc_lowcomp(a, b0, b1, bin)
 abbrev pub calcLowcomp : ℕ → ℤ → ℤ → ℕ → ℕ
 calcLowcomp a b0 b1 bin =
@@ -178,14 +186,14 @@ module _ (kind : Pointers) (exp : List ℕ) (c : Channel) (q : Params) (l : Leak
       stepped
       (deltaed d b
       (masked
-      (excite (bndpsd exp (c .start) (c .end)) (c .fgain) q (pos (fastOf l)) (pos (slowOf l))
+      (excite (rangeTo exp (c .start) (c .end) .sums) (c .fgain) q (pos (fastOf l)) (pos (slowOf l))
       (bandOf (c .start)) (bandOf (c .end - 1) + 1) (b - bandOf (c .start)))
-      (bndpsd exp (c .start) (c .end) b) q b)
+      (rangeTo exp (c .start) (c .end) .sums b) q b)
       (d .n))
       (snroffset (c .csnroffst) (c .fsnroffst)) (q .floor)
 
   abbrev pub pointer : ℕ → ℕ
-  pointer bin = getD (tableOf kind) (address (psd (getD exp bin 0)) (mask (bandOf bin))) 0
+  pointer bin = getD (tableOf kind) (address (rangeTo exp (c .start) (c .end) .powers bin) (mask (bandOf bin))) 0
 
   -- the pointers of 256 bins: 0 outside start .. end - 1, so all 0 where end ≤ start
   unfoldable pub allocation : List ℕ

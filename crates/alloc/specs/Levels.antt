@@ -67,6 +67,22 @@ bndpsdL exp start end k =
 unfoldable pub bndpsdsL : List ℕ → ℕ → ℕ → List ℕ
 bndpsdsL exp start end = tab (bndpsdL exp start end) 0 50
 
+-- a power in steps of 32 below 3072, as the pointers are entered by it
+abbrev pub stepsBelow : ℕ → ℕ
+stepsBelow p = (11264 - p) / 32
+
+-- the powers of the bins start .. n - 1 in these steps, and 0 at the other bins
+unfoldable pub psdsL : List ℕ → ℕ → ℕ → List ℕ
+psdsL exp start n = tab (λ j. cond (leb start j && ltb j n) (stepsBelow (psdL (getD exp j 0))) 0) 0 256
+
+-- powers and sums of the range up to bin n: what is known when the bins start .. n - 1 are passed
+pub record RangeL : Type 0 where
+  pub powers : List ℕ
+  pub sums : List ℕ
+
+abbrev pub rangeL : List ℕ → ℕ → ℕ → RangeL
+rangeL exp start n = record { powers = psdsL exp start n; sums = bndpsdsL exp start n }
+
 abbrev pub lowcompL : ℕ → ℕ → ℕ → ℕ → ℕ
 lowcompL a b0 b1 bin =
     cond (ltb bin 20)
@@ -152,17 +168,17 @@ abbrev pub baseOf : Pointers → ℕ
 baseOf Bap = 0
 baseOf Hebap = 512
 
--- the pointer of a bin of a band, by the band's place in the table and the bin's exponent
+-- the pointer of a bin of a band, by the band's place in the table and the bin's power
 abbrev pub pointL : List ℕ → List ℕ → ℕ → ℕ → ℕ
-pointL table exp place bin = getD table (place + 4 * getD exp bin 0) 0
+pointL table powers place bin = getD table (place + getD powers bin 0) 0
 
 abbrev pub pointerL : List ℕ → ℕ → List ℕ → List ℕ → ℕ → ℕ
-pointerL table base exp places bin = pointL table exp (base + getD places (bandOf bin) 0) bin
+pointerL table base powers places bin = pointL table powers (base + getD places (bandOf bin) 0) bin
 
 -- the places of the bands of the bins start .. end - 1
 unfoldable pub placesOf : List ℕ → ℕ → ℕ → Gains → Leaks → Levels → Deltas → List ℕ
-placesOf exp start end g l q d = placesL g l q d (bndpsdsL exp start end) (bandOf start) (bandOf (end - 1) + 1)
+placesOf exp start end g l q d = placesL g l q d (rangeL exp start end .sums) (bandOf start) (bandOf (end - 1) + 1)
 
 unfoldable pub allocationL : List ℕ → ℕ → List ℕ → ℕ → ℕ → Gains → Leaks → Levels → Deltas → List ℕ
 allocationL table base exp start end g l q d =
-    tab (λ j. cond (leb start j && ltb j end) (pointerL table base exp (placesOf exp start end g l q d) j) 0) 0 256
+    tab (λ j. cond (leb start j && ltb j end) (pointerL table base (rangeL exp start end .powers) (placesOf exp start end g l q d) j) 0) 0 256

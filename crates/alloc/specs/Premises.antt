@@ -24,6 +24,11 @@ pub record Exponents (exp : List ℕ) (lo hi : ℕ) : Type 0 where
   pub size : length exp ≡ 256
   pub low : (j : ℕ) → lo ≤ j → j < hi → getD exp j 0 ≤ 24
 
+-- 256 powers, none of which is below 0: in steps of 32 below 3072
+pub record Powers (powers : List ℕ) : Type 0 where
+  pub size : length powers ≡ 256
+  pub low : (j : ℕ) → getD powers j 0 ≤ 96
+
 -- the lent tables
 pub record Lent (log-add mask-tab band-end hearing pointers : List ℕ) : Type 0 where
   pub log : log-add ≡ latab
@@ -58,9 +63,25 @@ pub record Levelled (q : Levels) : Type 0 where
   pub most : q .floor ≤ 11264
   pub offset : q .snr < 65536
 
+-- the ranges of the gains and decays, which are taken from powers and leaks
+pub record Gained (g : Gains) : Type 0 where
+  pub fgain : g .fgain ≤ 2048
+  pub sgain : g .sgain ≤ 2048
+  pub fdecay : g .fdecay ≤ 2048
+  pub sdecay : g .sdecay ≤ 2048
+
+-- the ranges of the leaks before the first band
 pub record Leaking (l : Leaks) : Type 0 where
   pub fast : l .fast < 32768
   pub slow : l .slow < 32768
+  pub fast-least : 8192 ≤ l .fast
+  pub slow-least : 8192 ≤ l .slow
+
+-- the ranges of leaks and lowcomp at any band: a decay can be taken from a leak, and lowcomp from the fast one
+pub record Decaying (s : Passed) : Type 0 where
+  pub fast : 4096 ≤ s .fast
+  pub slow : 4096 ≤ s .slow
+  pub low : s .low ≤ 384
 
 -- the places lo .. hi - 1 of a list hold f's values, and the others what they held
 pub record Written (f : ℕ → ℕ) (lo hi : ℕ) (old new : List ℕ) : Type 0 where

@@ -1,15 +1,17 @@
 -- The excitation, from one band to the next.
 -- Assumes nothing.
 use mathlib.Core.Path.{_≡_, refl, _∙_}
+use mathlib.Core.Bool.{_&&_}
 use mathlib.Core.List.{List}
 use Prim.Native.Nat.{ℕ, zero, suc, _+_, _-_, _<_, _≤_}
 use native.Mathlib.Omega.{arith}
 use borrow.Author.Tests.{le-ltb, ne-eqb}
 use lib.ListN.{length, getD, set, replicate}
-use lib.Dec.{ltb}
+use lib.Dec.{ltb, eqb}
 use Rattle.alloc.specs.declared.Gains.{Gains}
 use Rattle.alloc.specs.declared.Leaks.{Leaks}
 use Rattle.alloc.specs.declared.Passed.{Passed}
+use Rattle.alloc.specs.Allocation.{lfeLast}
 use Rattle.alloc.specs.Levels.{nextLowL, beginL, fastL, slowL, lowL, exciteL, exciteOfL, NextL}
 use Rattle.alloc.specs.Premises.{Written, Passing, Excites, Leaking}
 use Rattle.alloc.proofs.Lists.{picked-low, written-low, written-none, written-more, written-join}
@@ -25,6 +27,19 @@ passing-none bnd g l first last =
 pub low-none : (bnd : List ℕ) (first last low b : ℕ) → (first ≡ 0 → 22 ≤ b) → nextLowL bnd first last low b ≡ 0
 low-none bnd zero last low b n = simp (le-ltb b 22 (n refl))
 low-none bnd (suc first) last low b n = simp (ne-eqb (suc first) 0 (let z : suc first ≡ 0 → ⊥ = omega arith in z))
+
+-- lowcomp is at most 384
+pub low-most : (bnd : List ℕ) (first last low b : ℕ) → low ≤ 384 → nextLowL bnd first last low b ≤ 384
+low-most bnd first last low b h =
+    let r = picked-low (eqb first 0 && ltb b 22) _ 0 385
+    (picked-low (lfeLast last b) low _ 385 (omega arith)
+    (picked-low (ltb b 20) _ (low - 128) 385
+    (picked-low (eqb (getD bnd b 0 + 256) (getD bnd (b + 1) 0)) _ _ 385
+    (picked-low (ltb b 7) 384 320 385 (omega arith) (omega arith))
+    (picked-low (ltb (getD bnd (b + 1) 0) (getD bnd b 0)) (low - 64) low 385 (omega arith) (omega arith)))
+    (omega arith)))
+    (omega arith) in
+    omega arith
 
 -- one band on
 module _ (bnd : List ℕ) (g : Gains) (l : Leaks) (first last b : ℕ) (s : Passed) (s′ : Passed)

@@ -13,15 +13,13 @@ use alloc::less;
 use alloc::sooner;
 use alloc::wide;
 ghost use mathlib.Core.Path.{_≡_};
-ghost use mathlib.Core.Bool.{cond};
-ghost use Prim.Native.Nat.{ℕ, _+_, _-_, _<_, _≤_, max, min};
-ghost use lib.Dec.{ltb};
+ghost use Prim.Native.Nat.{ℕ, _+_, _-_, _/_, _<_, _≤_, max, min};
 ghost use lib.ListN.{length, getD, replicate};
 ghost use Rattle.tables.specs.BitAllocation.{latab as laTab, bndend, hth as hthTab};
-ghost use Rattle.tables.specs.Bands.{bandOf, startOf};
+ghost use Rattle.tables.specs.Bands.{bandOf};
 ghost use Rattle.alloc.specs.Allocation.{lfeLast};
-ghost use Rattle.alloc.specs.Levels.{psdL, LogSum, sumL, bndpsdsL, lowcompL, nextLowL, decayFromL, beginL, NextL, exciteL, hearL, maskedL, deltaL, deltaedL, maskL};
-ghost use Rattle.alloc.specs.Premises.{Exponents, Written, Levelled, Leaking, Excites};
+ghost use Rattle.alloc.specs.Levels.{psdL, LogSum, stepsBelow, rangeL, lowcompL, nextLowL, decayFromL, beginL, NextL, exciteL, hearL, maskedL, deltaL, deltaedL, maskL};
+ghost use Rattle.alloc.specs.Premises.{Exponents, Written, Levelled, Gained, Leaking, Decaying, Excites};
 
 fn wide16(x: u16) -> u32
     ensures { λ r. ⌜ r ≡ x ⌝ }
@@ -35,16 +33,16 @@ fn larger(a: u32, b: u32) -> u32
     if a < b { b } else { a }
 }
 
-// Log addition at an address that stops at 255, where the table has 0.
-fn log_at(latab: &[u8; 256], h: u32) -> u32
-    requires { ⌜ now latab ≡ laTab ⌝ }
-    ensures { λ r. ⌜ (r ≡ getD laTab (min h 255) 0) × (r ≤ 64) ⌝ }
+// The larger of two powers that lie d apart, raised as log addition says. From 510 on the table has 0.
+fn raised(latab: &[u8; 256], top: u32, d: u32) -> u32
+    requires { ⌜ (now latab ≡ laTab) × (top < 65536) ⌝ }
+    ensures { λ r. ⌜ r ≡ top + getD laTab (min (d / 2) 255) 0 ⌝ }
 {
-    if h < 255 {
-        let i = h as usize;
-        wide(latab[i])
+    if d < 510 {
+        let i = (d / 2) as usize;
+        top + wide(latab[i])
     } else {
-        0
+        top
     }
 }
 
@@ -53,10 +51,10 @@ fn logadd(latab: &[u8; 256], a: u32, b: u32) -> u32
     requires { ⌜ (now latab ≡ laTab) × (a < 65536) × (b < 65536) ⌝ }
     ensures { λ r. ⌜ LogSum a b r ⌝ }
 {
-    if b <= a {
-        a + log_at(latab, (a - b) / 2)
+    if a < b {
+        raised(latab, b, b - a)
     } else {
-        b + log_at(latab, (b - a) / 2)
+        raised(latab, a, a - b)
     }
 }
 
@@ -68,69 +66,51 @@ fn power(e: u8) -> u32
     8192 + 3072 - 128 * wide(e)
 }
 
-// The sum of the powers of the bins lo .. hi - 1, or the level of 0 where there is none.
-fn band_sum(latab: &[u8; 256], exps: &[u8], lo: usize, hi: usize) -> u32
-    requires { ⌜ (now latab ≡ laTab) × (hi ≤ 253) × Exponents (now exps) lo hi ⌝ }
-    ensures { λ r. ⌜ r ≡ cond (ltb lo hi) (sumL (now (exps .entry)) lo (hi - lo - 1)) 8192 ⌝ }
+// The same in steps of 32 below 3072.
+fn below(e: u8) -> u8
+    requires { ⌜ e ≤ 24 ⌝ }
+    ensures { λ r. ⌜ r ≡ stepsBelow (psdL e) ⌝ }
 {
-    if hi <= lo {
-        return 8192;
-    }
-    let mut s = power(exps[lo]);
-    let mut j = lo + 1;
-    while j < hi {
-        let p = power(exps[j]);
-        s = logadd(latab, s, p);
-        j += 1;
-    }
-    s
+    4 * e
 }
 
-// The first bin of a band.
-fn start_of(ends: &[u8; 50], k: usize) -> usize
-    requires { ⌜ (now ends ≡ bndend) × (k < 50) ⌝ }
-    ensures { λ r. ⌜ r ≡ startOf k ⌝ }
-{
-    if k == 0 { 0 } else { end_of(ends, k - 1) }
-}
-
-// The powers of the bins from .. to - 1 below 28, each of which is a band.
-fn single_bands(exps: &[u8], bnd: &mut [u32; 50], from: usize, to: usize)
-    requires { ⌜ (from ≤ to) × (to ≤ max from 28) × Exponents (now exps) from to × (length (now bnd) ≡ 50) ⌝ }
-    ensures { λ r. ⌜ Written (λ b. psdL (getD (now (exps .entry)) b 0)) from to (now (bnd .entry)) (now (bnd .exit)) ⌝ }
-{
-    let mut j = from;
-    while j < to {
-        bnd[j] = power(exps[j]);
-        j += 1;
-    }
-}
-
-// The sums of the bands of the bins start .. end - 1, which are the bands first .. last - 1: those below 28, and the others. The
-// other bands keep the level of 0.
+// The powers of the bins start .. end - 1 and the sums of their bands, in one pass: s is the sum of band k, which ends at the bin
+// `to`. The other bins keep 0, and the other bands the level of 0.
 pub fn bands(
     latab: &[u8; 256],
     ends: &[u8; 50],
     exps: &[u8],
+    powers: &mut [u8; 256],
     bnd: &mut [u32; 50],
     start: usize,
     end: usize,
     first: usize,
-    last: usize,
 )
-    requires { ⌜ (now latab ≡ laTab) × (now ends ≡ bndend) × (now bnd ≡ replicate 50 8192) ⌝ }
-    requires { ⌜ (start < end) × (end ≤ 253) × Exponents (now exps) start end × (first ≡ bandOf start) × (last ≡ bandOf (end - 1) + 1) ⌝ }
-    ensures { λ r. ⌜ now (bnd .exit) ≡ bndpsdsL (now (exps .entry)) start end ⌝ }
+    requires { ⌜ (now latab ≡ laTab) × (now ends ≡ bndend) × (now powers ≡ replicate 256 0) × (now bnd ≡ replicate 50 8192) ⌝ }
+    requires { ⌜ (start < end) × (end ≤ 253) × Exponents (now exps) start end × (first ≡ bandOf start) ⌝ }
+    ensures { λ r. ⌜ (now (powers .exit) ≡ rangeL (now (exps .entry)) start end .powers) × (now (bnd .exit) ≡ rangeL (now (exps .entry)) start end .sums) ⌝ }
 {
-    let mid = later(first, sooner(end, 28));
-    single_bands(exps, bnd, first, mid);
-    let mut k = mid;
-    while k < last {
-        let lo = later(start, start_of(ends, k));
-        let hi = sooner(end, end_of(ends, k));
-        bnd[k] = band_sum(latab, exps, lo, hi);
-        k += 1;
+    let o = exps[start];
+    powers[start] = below(o);
+    let mut s = power(o);
+    let mut k = first;
+    let mut to = end_of(ends, first);
+    let mut j = start + 1;
+    while j < end {
+        let e = exps[j];
+        powers[j] = below(e);
+        let p = power(e);
+        if j == to {
+            bnd[k] = s;
+            k += 1;
+            to = end_of(ends, k);
+            s = p;
+        } else {
+            s = logadd(latab, s, p);
+        }
+        j += 1;
     }
+    bnd[k] = s;
 }
 
 // calc_lowcomp
@@ -173,9 +153,10 @@ fn next_low(bnd: &[u32; 50], last: usize, low: u32, b: usize) -> u32
 
 // A leak that decays, or starts anew from a power that is above it.
 fn decayed(leak: u32, decay: u32, p: u32, gain: u32) -> u32
+    requires { ⌜ (decay ≤ leak) × (gain ≤ p) ⌝ }
     ensures { λ r. ⌜ r ≡ max (leak - decay) (p - gain) ⌝ }
 {
-    larger(less(leak, decay), less(p, gain))
+    larger(leak - decay, p - gain)
 }
 
 // The band from which the leaks decay, where the range starts at band 0.
@@ -199,21 +180,21 @@ fn decay_from(bnd: &[u32; 50], last: usize) -> usize
 
 // The leaks and lowcomp, one band on, before the leaks decay.
 fn pass_rising(bnd: &[u32; 50], g: Gains, s: Passed, last: usize, b: usize) -> Passed
-    requires { ⌜ (b < 22) × ((k : ℕ) → getD (now bnd) k 0 < 32768) ⌝ }
-    ensures { λ r. ⌜ ((begin : ℕ) → b < begin → NextL (now (bnd .entry)) g s 0 last begin b r) ⌝ }
+    requires { ⌜ (b < 22) × ((k : ℕ) → getD (now bnd) k 0 < 32768) × ((k : ℕ) → k < 50 → 8192 ≤ getD (now bnd) k 0) × Gained g × Decaying s ⌝ }
+    ensures { λ r. ⌜ ((begin : ℕ) → b < begin → NextL (now (bnd .entry)) g s 0 last begin b r) × Decaying r ⌝ }
 {
     let p = bnd[b];
     Passed {
-        fast: less(p, g.fgain),
-        slow: less(p, g.sgain),
+        fast: p - g.fgain,
+        slow: p - g.sgain,
         low: next_low(bnd, last, s.low, b),
     }
 }
 
 // The same where the leaks decay, below band 22.
 fn pass_low(bnd: &[u32; 50], g: Gains, s: Passed, last: usize, b: usize) -> Passed
-    requires { ⌜ (b < 22) × ((k : ℕ) → getD (now bnd) k 0 < 32768) ⌝ }
-    ensures { λ r. ⌜ ((begin : ℕ) → begin ≤ b → NextL (now (bnd .entry)) g s 0 last begin b r) ⌝ }
+    requires { ⌜ (b < 22) × ((k : ℕ) → getD (now bnd) k 0 < 32768) × ((k : ℕ) → k < 50 → 8192 ≤ getD (now bnd) k 0) × Gained g × Decaying s ⌝ }
+    ensures { λ r. ⌜ ((begin : ℕ) → begin ≤ b → NextL (now (bnd .entry)) g s 0 last begin b r) × Decaying r ⌝ }
 {
     let p = bnd[b];
     Passed {
@@ -225,8 +206,8 @@ fn pass_low(bnd: &[u32; 50], g: Gains, s: Passed, last: usize, b: usize) -> Pass
 
 // The same where there is no lowcomp: from band 22 on, or in a range that does not start at band 0.
 fn pass_high(bnd: &[u32; 50], g: Gains, s: Passed, b: usize) -> Passed
-    requires { ⌜ b < 50 ⌝ }
-    ensures { λ r. ⌜ ((first last begin : ℕ) → begin ≤ b → (first ≡ 0 → 22 ≤ b) → NextL (now (bnd .entry)) g s first last begin b r) ⌝ }
+    requires { ⌜ (b < 50) × ((k : ℕ) → k < 50 → 8192 ≤ getD (now bnd) k 0) × Gained g × Decaying s ⌝ }
+    ensures { λ r. ⌜ ((first last begin : ℕ) → begin ≤ b → (first ≡ 0 → 22 ≤ b) → NextL (now (bnd .entry)) g s first last begin b r) × Decaying r ⌝ }
 {
     let p = bnd[b];
     Passed {
@@ -239,13 +220,14 @@ fn pass_high(bnd: &[u32; 50], g: Gains, s: Passed, b: usize) -> Passed
 // The excitation of the bands 0 .. to - 1, before the leaks decay.
 fn rise(bnd: &[u32; 50], out: &mut [u32; 50], g: Gains, s: Passed, last: usize, to: usize) -> Passed
     requires { ⌜ (to ≤ beginL (now bnd) 0 last) × (to ≤ 22) × ((k : ℕ) → getD (now bnd) k 0 < 32768) × (length (now out) ≡ 50) ⌝ }
-    ensures { λ r. ⌜ Excites (now (bnd .entry)) g 0 last 0 to s r (now (out .entry)) (now (out .exit)) ⌝ }
+    requires { ⌜ ((k : ℕ) → k < 50 → 8192 ≤ getD (now bnd) k 0) × Gained g × Decaying s ⌝ }
+    ensures { λ r. ⌜ (Excites (now (bnd .entry)) g 0 last 0 to s r (now (out .entry)) (now (out .exit))) × Decaying r ⌝ }
 {
     let mut t = s;
     let mut b = 0;
     while b < to {
         t = pass_rising(bnd, g, t, last, b);
-        out[b] = less(t.fast, t.low);
+        out[b] = t.fast - t.low;
         b += 1;
     }
     t
@@ -262,13 +244,14 @@ fn middle(
     to: usize,
 ) -> Passed
     requires { ⌜ (from ≤ to) × (from < to → beginL (now bnd) 0 last ≤ from) × (to ≤ 22) × ((k : ℕ) → getD (now bnd) k 0 < 32768) × (length (now out) ≡ 50) ⌝ }
-    ensures { λ r. ⌜ Excites (now (bnd .entry)) g 0 last from to s r (now (out .entry)) (now (out .exit)) ⌝ }
+    requires { ⌜ ((k : ℕ) → k < 50 → 8192 ≤ getD (now bnd) k 0) × Gained g × Decaying s ⌝ }
+    ensures { λ r. ⌜ (Excites (now (bnd .entry)) g 0 last from to s r (now (out .entry)) (now (out .exit))) × Decaying r ⌝ }
 {
     let mut t = s;
     let mut b = from;
     while b < to {
         t = pass_low(bnd, g, t, last, b);
-        out[b] = larger(less(t.fast, t.low), t.slow);
+        out[b] = larger(t.fast - t.low, t.slow);
         b += 1;
     }
     t
@@ -285,6 +268,7 @@ fn high(
     from: usize,
 ) -> Passed
     requires { ⌜ (from ≤ last) × (last ≤ 50) × (from < last → beginL (now bnd) first last ≤ from) × (from < last → first ≡ 0 → 22 ≤ from) × (length (now out) ≡ 50) ⌝ }
+    requires { ⌜ ((k : ℕ) → k < 50 → 8192 ≤ getD (now bnd) k 0) × Gained g × Decaying s ⌝ }
     ensures { λ r. ⌜ Excites (now (bnd .entry)) g first last from last s r (now (out .entry)) (now (out .exit)) ⌝ }
 {
     let mut t = s;
@@ -300,6 +284,7 @@ fn high(
 // The excitation of the bands first .. last - 1.
 fn excite(bnd: &[u32; 50], out: &mut [u32; 50], g: Gains, l: Leaks, first: usize, last: usize)
     requires { ⌜ (first ≤ last) × (last ≤ 50) × ((k : ℕ) → getD (now bnd) k 0 < 32768) × (length (now out) ≡ 50) ⌝ }
+    requires { ⌜ ((k : ℕ) → k < 50 → 8192 ≤ getD (now bnd) k 0) × Gained g × Leaking l ⌝ }
     ensures { λ r. ⌜ Written (λ b. exciteL (now (bnd .entry)) g l first last (b - first)) first last (now (out .entry)) (now (out .exit)) ⌝ }
 {
     let s = Passed {
@@ -409,8 +394,8 @@ pub fn masks(
     first: usize,
     last: usize,
 )
-    requires { ⌜ (now hth ≡ hthTab) × (first ≤ last) × (last ≤ 50) × ((k : ℕ) → getD (now bnd) k 0 < 32768) ⌝ }
-    requires { ⌜ (Leaking l) × (d .n ≤ 8) × Levelled q × (now out ≡ replicate 50 0) ⌝ }
+    requires { ⌜ (now hth ≡ hthTab) × (first ≤ last) × (last ≤ 50) × ((k : ℕ) → getD (now bnd) k 0 < 32768) × ((k : ℕ) → k < 50 → 8192 ≤ getD (now bnd) k 0) ⌝ }
+    requires { ⌜ (Leaking l) × (d .n ≤ 8) × Levelled q × (now out ≡ replicate 50 0) × Gained g ⌝ }
     ensures { λ r. ⌜ Written (maskL g l q d (now (bnd .entry)) first last) first last (now (out .entry)) (now (out .exit)) × ((k : ℕ) → getD (now (out .exit)) k 0 < 16777216) ⌝ }
 {
     excite(bnd, out, g, l, first, last);

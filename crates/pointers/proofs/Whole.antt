@@ -1,6 +1,6 @@
 -- The allocation on levels, from its parts.
 -- Assumes nothing.
-use mathlib.Core.Path.{_≡_, ap, _∙_, sym}
+use mathlib.Core.Path.{_≡_, ap, ap₂, _∙_, sym}
 use mathlib.Core.Bool.{cond, _&&_}
 use mathlib.Core.List.{List}
 use Prim.Native.Nat.{ℕ, _+_, _-_, _<_, _≤_}
@@ -9,7 +9,7 @@ use lib.Dec.{leb, ltb}
 use lib.ListN.{length, getD, replicate}
 use Rattle.tables.specs.Bands.{bandOf}
 use Rattle.alloc.specs.Allocation.{tab}
-use Rattle.alloc.specs.Levels.{bndpsdsL, placeL, maskL, placesL, placesOf, pointerL, allocationL}
+use Rattle.alloc.specs.Levels.{rangeL, placeL, maskL, placesL, placesOf, pointerL, allocationL}
 use Rattle.alloc.specs.Premises.{Written, Pointed}
 use Rattle.alloc.specs.Shares.{total, sharesOf}
 use Rattle.alloc.specs.declared.Deltas.{Deltas}
@@ -34,39 +34,40 @@ places-made g l q d bnd first last masks out one two =
     written-list _ first last 50 0 out (written-over _ (λ b x. placeL x (q .snr) (q .floor)) first last _ masks out one two)
 
 module _ (exp : List ℕ) (start end : ℕ) (g : Gains) (l : Leaks) (q : Levels) (d : Deltas) where
-  places-are : (bnd : List ℕ) (first last : ℕ) (m : List ℕ) → first ≡ bandOf start → last ≡ bandOf (end - 1) → bnd ≡ bndpsdsL exp start end
+  places-are : (bnd : List ℕ) (first last : ℕ) (m : List ℕ) → first ≡ bandOf start → last ≡ bandOf (end - 1) → bnd ≡ rangeL exp start end .sums
       → m ≡ placesL g l q d bnd first (last + 1) → m ≡ placesOf exp start end g l q d
   unfolding placesOf
   places-are bnd first last m a b c e = rw (← a, ← b, ← c) e
 
-  module _ (table : List ℕ) (base : ℕ) (m : List ℕ) (places : m ≡ placesOf exp start end g l q d) where
-    all-are : (out : List ℕ) → out ≡ tab (λ k. cond (leb start k && ltb k end) (pointerL table base exp m k) 0) 0 256
+  module _ (table : List ℕ) (base : ℕ) (powers m : List ℕ) (kept : powers ≡ rangeL exp start end .powers) (places : m ≡ placesOf exp start end g l q d) where
+    all-are : (out : List ℕ) → out ≡ tab (λ k. cond (leb start k && ltb k end) (pointerL table base powers m k) 0) 0 256
         → out ≡ allocationL table base exp start end g l q d
     unfolding allocationL
-    all-are out h = rw (← places) h
+    all-are out h = rw (← kept, ← places) h
 
-    at : (k : ℕ) → end ≤ 256 → start ≤ k → k < end → pointerL table base exp m k ≡ getD (allocationL table base exp start end g l q d) k 0
+    at : (k : ℕ) → end ≤ 256 → start ≤ k → k < end → pointerL table base powers m k ≡ getD (allocationL table base exp start end g l q d) k 0
     unfolding allocationL
     at k most a b =
-        ap (λ p. pointerL table base exp p k) places
+        ap₂ (λ w p. pointerL table base w p k) kept places
         ∙ sym
-        (getD-tab (λ j. cond (leb start j && ltb j end) (pointerL table base exp (placesOf exp start end g l q d) j) 0) 256 k (omega arith)
+        (getD-tab (λ j. cond (leb start j && ltb j end) (pointerL table base (rangeL exp start end .powers) (placesOf exp start end g l q d) j) 0) 256 k (omega arith)
         ∙ within start end k _ 0 a b)
 
-    shares-are : (shares : List ℕ) (r : ℕ) → end ≤ 256 → r ≡ total (λ k. getD shares (pointerL table base exp m k) 0) start (end - start)
+    shares-are : (shares : List ℕ) (r : ℕ) → end ≤ 256 → r ≡ total (λ k. getD shares (pointerL table base powers m k) 0) start (end - start)
         → r ≡ sharesOf shares (allocationL table base exp start end g l q d) start (end - start)
     shares-are shares r most h =
         h ∙ total-same _ _ start (end - start) (λ k a b. ap (λ x. getD shares x 0) (at k most a (omega arith)))
 
-  -- the bands' powers and places, zeros before the range and after it, and the pointers of the range
-  pub allocated : (table shares : List ℕ) (base first last r : ℕ) (bnd m old before after out : List ℕ)
+  -- the powers of the bins, the bands' sums and places, zeros before the range and after it, and the pointers of the range
+  pub allocated : (table shares : List ℕ) (base first last r : ℕ) (powers bnd m old before after out : List ℕ)
       → start < end → end ≤ 253 → length old ≡ 256
-      → first ≡ bandOf start → last ≡ bandOf (end - 1) → bnd ≡ bndpsdsL exp start end → m ≡ placesL g l q d bnd first (last + 1)
-      → Written (λ k. 0) 0 start old before → Written (λ k. 0) end 256 before after → Pointed shares (pointerL table base exp m) start end after out r
+      → first ≡ bandOf start → last ≡ bandOf (end - 1) → powers ≡ rangeL exp start end .powers → bnd ≡ rangeL exp start end .sums
+      → m ≡ placesL g l q d bnd first (last + 1)
+      → Written (λ k. 0) 0 start old before → Written (λ k. 0) end 256 before after → Pointed shares (pointerL table base powers m) start end after out r
       → (out ≡ allocationL table base exp start end g l q d)
       × (r ≡ sharesOf shares (allocationL table base exp start end g l q d) start (end - start))
-  allocated table shares base first last r bnd m old before after out some most size a b c e one two three =
+  allocated table shares base first last r powers bnd m old before after out some most size a b kept c e one two three =
       let places = places-are bnd first last m a b c e in (
-        all-are table base m places out (written-whole _ start end 256 old before after out size (omega arith) one two (three .written)),
-        shares-are table base m places shares r (omega arith) (three .sum),
+        all-are table base powers m kept places out (written-whole _ start end 256 old before after out size (omega arith) one two (three .written)),
+        shares-are table base powers m kept places shares r (omega arith) (three .sum),
       )

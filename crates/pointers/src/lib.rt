@@ -16,7 +16,7 @@ use alloc::less;
 use alloc::sooner;
 use alloc::wide;
 ghost use mathlib.Core.Path.{_≡_};
-ghost use Prim.Native.Nat.{ℕ, _+_, _-_, _*_, _/_, _%_, _<_, _≤_, max};
+ghost use Prim.Native.Nat.{ℕ, _+_, _-_, _/_, _%_, _<_, _≤_, max};
 ghost use lib.IntN.{pos, negsuc};
 ghost use lib.ListN.{length, getD, replicate};
 ghost use lib.Signed.{_≤ℤ_};
@@ -24,7 +24,7 @@ ghost use Rattle.tables.specs.BitAllocation.{bndend, masktab as maskTab, hth as
 ghost use Rattle.tables.specs.Bands.{bandOf, BinBand};
 ghost use Rattle.alloc.specs.Allocation.{fastOf, slowOf, allocation};
 ghost use Rattle.alloc.specs.Levels.{placeL, placesL, pointL, pointerL, allocationL, baseOf, gainsOf, leaksOf, levelOf, levelsOf};
-ghost use Rattle.alloc.specs.Premises.{Exponents, Lent, Written, Tuned, Channelled, Levelled, Leaking, Pointed};
+ghost use Rattle.alloc.specs.Premises.{Exponents, Powers, Lent, Written, Tuned, Channelled, Levelled, Gained, Leaking, Pointed};
 ghost use Rattle.alloc.specs.Shares.{sharesOf};
 
 fn index32(x: u32) -> usize
@@ -43,18 +43,18 @@ fn band_of(masktab: &[u8; 253], bin: usize) -> usize
 
 // The place of a mask, with `down` taken away, in steps of 32 from `base` on.
 fn place(mask: u32, down: u32, base: u32) -> u32
-    requires { ⌜ (mask < 16777216) × (base ≤ 160) ⌝ }
-    ensures { λ r. ⌜ (r ≡ (mask + 960 - down) / 32 % 256 + base) × (r ≤ 415) ⌝ }
+    requires { ⌜ base ≤ 160 ⌝ }
+    ensures { λ r. ⌜ (r ≡ (mask - down) / 32 % 256 + base) × (r ≤ 415) ⌝ }
 {
-    less(mask + 960, down) / 32 % 256 + base
+    less(mask, down) / 32 % 256 + base
 }
 
 // The places of the bands first .. last - 1, in place of their masks.
 fn place_bands(out: &mut [u32; 50], q: Levels, first: usize, last: usize)
-    requires { ⌜ (first ≤ last) × (last ≤ 50) × Levelled q × ((k : ℕ) → getD (now out) k 0 < 16777216) × (length (now out) ≡ 50) ⌝ }
+    requires { ⌜ (first ≤ last) × (last ≤ 50) × Levelled q × (length (now out) ≡ 50) ⌝ }
     ensures { λ r. ⌜ Written (λ b. placeL (getD (now (out .entry)) b 0) (q .snr) (q .floor)) first last (now (out .entry)) (now (out .exit)) ⌝ }
 {
-    let down = q.snr + q.floor;
+    let down = q.snr + q.floor - 960;
     let base = 160 - (11264 - q.floor) / 32;
     let mut b = first;
     while b < last {
@@ -76,20 +76,20 @@ fn places(
     first: usize,
     last: usize,
 )
-    requires { ⌜ (now hth ≡ hthTab) × (first ≤ last) × (last ≤ 50) × ((k : ℕ) → getD (now bnd) k 0 < 32768) ⌝ }
-    requires { ⌜ (Leaking l) × (d .n ≤ 8) × Levelled q × (now out ≡ replicate 50 0) ⌝ }
+    requires { ⌜ (now hth ≡ hthTab) × (first ≤ last) × (last ≤ 50) × ((k : ℕ) → getD (now bnd) k 0 < 32768) × ((k : ℕ) → k < 50 → 8192 ≤ getD (now bnd) k 0) ⌝ }
+    requires { ⌜ (Leaking l) × (d .n ≤ 8) × Levelled q × (now out ≡ replicate 50 0) × Gained g ⌝ }
     ensures { λ r. ⌜ now (out .exit) ≡ placesL g l q d (now (bnd .entry)) first last ⌝ }
 {
     masking::masks(hth, bnd, out, g, l, q, d, first, last);
     place_bands(out, q, first, last);
 }
 
-// The pointer of a bin with the exponent e in a band with its place in the table.
-fn pointer(points: &[u8; 1024], place: usize, e: u8) -> u8
-    requires { ⌜ (place ≤ 927) × (e ≤ 24) ⌝ }
-    ensures { λ r. ⌜ r ≡ getD (now (points .entry)) (place + 4 * e) 0 ⌝ }
+// The pointer of a bin whose power is w steps below 3072, in a band with its place in the table.
+fn pointer(points: &[u8; 1024], place: usize, w: u8) -> u8
+    requires { ⌜ (place ≤ 927) × (w ≤ 96) ⌝ }
+    ensures { λ r. ⌜ r ≡ getD (now (points .entry)) (place + w) 0 ⌝ }
 {
-    let t = place + 4 * index(e);
+    let t = place + index(w);
     points[t]
 }
 
@@ -97,20 +97,20 @@ fn pointer(points: &[u8; 1024], place: usize, e: u8) -> u8
 fn point(
     points: &[u8; 1024],
     shares: &[u64; 256],
-    exps: &[u8],
+    powers: &[u8],
     out: &mut [u8],
     lo: usize,
     hi: usize,
     place: usize,
 ) -> u64
-    requires { ⌜ (lo ≤ hi) × (hi ≤ 253) × (place ≤ 927) × Exponents (now exps) lo hi × (length (now out) ≡ 256) ⌝ }
+    requires { ⌜ (lo ≤ hi) × (hi ≤ 253) × (place ≤ 927) × Powers (now powers) × (length (now out) ≡ 256) ⌝ }
     requires { ⌜ ((k : ℕ) → getD (now shares) k 0 ≤ 281474976710656) ⌝ }
-    ensures { λ r. ⌜ Pointed (now (shares .entry)) (pointL (now (points .entry)) (now (exps .entry)) place) lo hi (now (out .entry)) (now (out .exit)) r ⌝ }
+    ensures { λ r. ⌜ Pointed (now (shares .entry)) (pointL (now (points .entry)) (now (powers .entry)) place) lo hi (now (out .entry)) (now (out .exit)) r ⌝ }
 {
     let mut sum = 0u64;
     let mut j = lo;
     while j < hi {
-        let b = pointer(points, place, exps[j]);
+        let b = pointer(points, place, powers[j]);
         out[j] = b;
         sum += shares[index(b)];
         j += 1;
@@ -122,21 +122,21 @@ fn point(
 fn point_singles(
     points: &[u8; 1024],
     shares: &[u64; 256],
-    exps: &[u8],
+    powers: &[u8],
     place: &[u32; 50],
     out: &mut [u8],
     from: usize,
     to: usize,
     base: usize,
 ) -> u64
-    requires { ⌜ (from ≤ to) × (to ≤ max from 28) × (base ≤ 512) × Exponents (now exps) from to × (length (now out) ≡ 256) ⌝ }
+    requires { ⌜ (from ≤ to) × (to ≤ max from 28) × (base ≤ 512) × Powers (now powers) × (length (now out) ≡ 256) ⌝ }
     requires { ⌜ ((k : ℕ) → getD (now place) k 0 ≤ 415) × ((k : ℕ) → getD (now shares) k 0 ≤ 281474976710656) ⌝ }
-    ensures { λ r. ⌜ Pointed (now (shares .entry)) (pointerL (now (points .entry)) base (now (exps .entry)) (now (place .entry))) from to (now (out .entry)) (now (out .exit)) r ⌝ }
+    ensures { λ r. ⌜ Pointed (now (shares .entry)) (pointerL (now (points .entry)) base (now (powers .entry)) (now (place .entry))) from to (now (out .entry)) (now (out .exit)) r ⌝ }
 {
     let mut sum = 0u64;
     let mut j = from;
     while j < to {
-        let b = pointer(points, base + index32(place[j]), exps[j]);
+        let b = pointer(points, base + index32(place[j]), powers[j]);
         out[j] = b;
         sum += shares[index(b)];
         j += 1;
@@ -149,7 +149,7 @@ fn point_bands(
     points: &[u8; 1024],
     shares: &[u64; 256],
     ends: &[u8; 50],
-    exps: &[u8],
+    powers: &[u8],
     place: &[u32; 50],
     out: &mut [u8],
     start: usize,
@@ -158,9 +158,9 @@ fn point_bands(
     first: usize,
 ) -> u64
     requires { ⌜ (now ends ≡ bndend) × (start ≤ end) × (end ≤ 253) × (base ≤ 512) × (start < end → first ≡ bandOf start) ⌝ }
-    requires { ⌜ (Exponents (now exps) start end) × (length (now out) ≡ 256) ⌝ }
+    requires { ⌜ (Powers (now powers)) × (length (now out) ≡ 256) ⌝ }
     requires { ⌜ ((k : ℕ) → getD (now place) k 0 ≤ 415) × ((k : ℕ) → getD (now shares) k 0 ≤ 281474976710656) ⌝ }
-    ensures { λ r. ⌜ Pointed (now (shares .entry)) (pointerL (now (points .entry)) base (now (exps .entry)) (now (place .entry))) start end (now (out .entry)) (now (out .exit)) r ⌝ }
+    ensures { λ r. ⌜ Pointed (now (shares .entry)) (pointerL (now (points .entry)) base (now (powers .entry)) (now (place .entry))) start end (now (out .entry)) (now (out .exit)) r ⌝ }
 {
     let mut sum = 0u64;
     let mut j = start;
@@ -168,7 +168,7 @@ fn point_bands(
     while j < end {
         let hi = sooner(end, end_of(ends, k));
         let p = base + index32(place[k]);
-        sum += point(points, shares, exps, out, j, hi, p);
+        sum += point(points, shares, powers, out, j, hi, p);
         j = hi;
         k += 1;
     }
@@ -180,7 +180,7 @@ fn point_all(
     points: &[u8; 1024],
     shares: &[u64; 256],
     ends: &[u8; 50],
-    exps: &[u8],
+    powers: &[u8],
     place: &[u32; 50],
     out: &mut [u8],
     start: usize,
@@ -189,18 +189,18 @@ fn point_all(
     first: usize,
 ) -> u64
     requires { ⌜ (now ends ≡ bndend) × (start ≤ end) × (end ≤ 253) × (base ≤ 512) × (first ≡ bandOf start) ⌝ }
-    requires { ⌜ (Exponents (now exps) start end) × (length (now out) ≡ 256) ⌝ }
+    requires { ⌜ (Powers (now powers)) × (length (now out) ≡ 256) ⌝ }
     requires { ⌜ ((k : ℕ) → getD (now place) k 0 ≤ 415) × ((k : ℕ) → getD (now shares) k 0 ≤ 281474976710656) ⌝ }
-    ensures { λ r. ⌜ Pointed (now (shares .entry)) (pointerL (now (points .entry)) base (now (exps .entry)) (now (place .entry))) start end (now (out .entry)) (now (out .exit)) r ⌝ }
+    ensures { λ r. ⌜ Pointed (now (shares .entry)) (pointerL (now (points .entry)) base (now (powers .entry)) (now (place .entry))) start end (now (out .entry)) (now (out .exit)) r ⌝ }
 {
     let single = sooner(end, 28);
     let mid = later(start, single);
-    let a = point_singles(points, shares, exps, place, out, start, mid, base);
+    let a = point_singles(points, shares, powers, place, out, start, mid, base);
     let b = point_bands(
         points,
         shares,
         ends,
-        exps,
+        powers,
         place,
         out,
         mid,
@@ -251,7 +251,7 @@ fn allocate_some(
 ) -> u64
     requires { ⌜ Lent (now latab) (now masktab) (now ends) (now hth) (now points) ⌝ }
     requires { ⌜ (start < end) × (end ≤ 253) × Exponents (now exps) start end × (length (now out) ≡ 256) ⌝ }
-    requires { ⌜ (Leaking l) × (d .n ≤ 8) × Levelled q × (base ≤ 512) ⌝ }
+    requires { ⌜ (Leaking l) × (d .n ≤ 8) × Levelled q × (base ≤ 512) × Gained g ⌝ }
     requires { ⌜ ((k : ℕ) → getD (now shares) k 0 ≤ 281474976710656) ⌝ }
     ensures { λ r. ⌜ now (out .exit) ≡ allocationL (now (points .entry)) base (now (exps .entry)) start end g l q d ⌝ }
     ensures { λ r. ⌜ r ≡ sharesOf (now (shares .entry)) (allocationL (now (points .entry)) base (now (exps .entry)) start end g l q d) start (end - start) ⌝ }
@@ -259,7 +259,8 @@ fn allocate_some(
     let first = band_of(masktab, start);
     let last = band_of(masktab, end - 1) + 1;
     let mut bnd = [8192u32; 50];
-    masking::bands(latab, ends, exps, &mut bnd, start, end, first, last);
+    let mut powers = [0u8; 256];
+    masking::bands(latab, ends, exps, &mut powers, &mut bnd, start, end, first);
     let mut place = [0u32; 50];
     places(hth, &bnd, &mut place, g, l, q, d, first, last);
     clear(out, 0, start);
@@ -268,7 +269,7 @@ fn allocate_some(
         points,
         shares,
         ends,
-        exps,
+        &powers,
         &place,
         out,
         start,

@@ -16,22 +16,21 @@ unfolding logaddL
 returns c =
     let a = c .before .before .args .a in
     let b = c .before .before .args .b in
-    let h : b ≤ a = c .before .if1 .taken in
-    let m : max a b ≡ a = omega arith in
-    let d : apart a b ≡ a - b = omega arith in
-    bounded a b _ (rw (m, d, c .log-at .ensures .0))
+    let h : a < b = c .before .if1 .taken in
+    let m : max a b ≡ b = omega arith in
+    let d : apart a b ≡ b - a = omega arith in
+    bounded a b _ (rw (m, d) (c .raised .ensures))
 
 returns-2 : tie.Need-returns-2
 unfolding logaddL
 returns-2 c =
     let a = c .before .before .args .a in
     let b = c .before .before .args .b in
-    let h : a < b = c .before .if1 .left in
-    let m : max a b ≡ b = omega arith in
-    let d : apart a b ≡ b - a = omega arith in
-    bounded a b _ (rw (m, d, c .log-at2 .ensures .0))
+    let h : b ≤ a = c .before .if1 .left in
+    let m : max a b ≡ a = omega arith in
+    let d : apart a b ≡ a - b = omega arith in
+    bounded a b _ (rw (m, d) (c .raised2 .ensures))
 
 pub logadd-spec : {M : Type 1} → statement M
 logadd-spec =
-    tie.close (tie.spec (λ c κs. search needs) (λ c. search needs) (λ c. search needs) (λ c κs. search needs)
-    (λ c. search needs) returns returns-2)
+    tie.close (tie.spec (λ c. search needs) (λ c κs. search needs) (λ c κs. search needs) returns returns-2)

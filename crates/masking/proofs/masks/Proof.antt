@@ -8,7 +8,7 @@ use Rattle.masking.proofs.masks.Tie as tie
 excite-requires : tie.Need-excite-requires
 excite-requires c κs =
     let p = c .before .pre .0 in
-    (p .1, p .2, p .3, ap length (c .before .pre .1 .3))
+    ((p .1, p .2, p .3, ap length (c .before .pre .1 .3)), (p .4, c .before .pre .1 .4, c .before .pre .1 .0))
 
 mask-bands-requires : tie.Need-mask-bands-requires
 mask-bands-requires c κs =

@@ -1,6 +1,7 @@
 use mathlib.Core.Path.{_≡_, refl, _∙_}
 use native.Mathlib.Omega.{arith}
 use Prim.Native.Nat.{_-_}
+use Rattle.alloc.specs.Premises.{Gained}
 use Rattle.alloc.proofs.Carry.{levels-are}
 use Rattle.alloc.proofs.Edges.{none-allocated}
 use borrow.Author.Needs.{needs}
@@ -16,11 +17,15 @@ returns c =
 allocate-some-requires : tie.Need-allocate-some-requires
 allocate-some-requires c κs =
     let p = c .before .before .before .before .before .before .before .before .pre in
-    let r = p .1 .1 .0 .0 in (
+    let r = p .1 .1 .0 .0 in
+    let t = p .1 .1 .0 .1 in
+    let g : Gained (c .before .before .before .before .gains-of .result) =
+    rw (c .before .before .before .before .gains-of .ensures)
+    (record { fgain = omega (arith, r .fgain); sgain = omega (arith, t .sgain); fdecay = omega (arith, t .fdecay); sdecay = omega (arith, t .sdecay) }) in (
       p .0,
       (
         (c .before .before .before .before .before .if1 .left, r .within, p .1 .0 .0, p .1 .0 .1),
-        ((c .before .before .leaks-of .ensures .1, r .segs, c .before .before .before .levels-of .ensures .1, c .before .base-of .ensures .1), p .1 .1 .1),
+        ((c .before .before .leaks-of .ensures .1, r .segs, c .before .before .before .levels-of .ensures .1, c .before .base-of .ensures .1, g), p .1 .1 .1),
       ),
     )
 

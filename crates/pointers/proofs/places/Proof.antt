@@ -11,7 +11,7 @@ place-bands-requires : tie.Need-place-bands-requires
 place-bands-requires c κs =
     let p = c .before .before .before .pre in
     let w = c .before .masks .ensures in
-    (p .0 .1, p .0 .2, p .1 .2, w .1, w .0 .size ∙ ap length (p .1 .3))
+    (p .0 .1, p .0 .2, p .1 .2, w .0 .size ∙ ap length (p .1 .3))
 
 returns : tie.Need-returns
 returns c =

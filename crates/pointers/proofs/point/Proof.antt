@@ -10,11 +10,11 @@ use Rattle.pointers.proofs.point.Statement.{statement}
 use Rattle.pointers.proofs.point.Tie as tie
 
 abbrev Inv-loop : tie.InvT-loop
-Inv-loop points shares exps out₀ lo hi place sum₀ j₀ out sum j =
-    (lo ≤ j) × (j ≤ hi) × (length out ≡ 256) × Pointed shares (pointL points exps place) lo j out₀ out sum
+Inv-loop points shares powers out₀ lo hi place sum₀ j₀ out sum j =
+    (lo ≤ j) × (j ≤ hi) × (length out ≡ 256) × Pointed shares (pointL points powers place) lo j out₀ out sum
 
 abbrev μ-loop : tie.MeasureT-loop
-μ-loop points shares exps out₀ lo hi place sum₀ j₀ out sum j =
+μ-loop points shares powers out₀ lo hi place sum₀ j₀ out sum j =
     hi - j
 
 loop-holds : tie.Need-loop-holds Inv-loop μ-loop
@@ -27,7 +27,7 @@ shared-slice-read-pointer c =
 
 pointer-requires : tie.Need-pointer-requires Inv-loop μ-loop
 pointer-requires c κs =
-    (c .before .before .before .before .before .pre .0 .2, c .before .before .before .before .before .pre .0 .3 .low _ (omega arith) (omega arith))
+    (c .before .before .before .before .before .pre .0 .2, c .before .before .before .before .before .pre .0 .3 .low _)
 
 slice-write-out : tie.Need-slice-write-out Inv-loop μ-loop
 slice-write-out c =
@@ -44,7 +44,7 @@ loop-again c =
       omega arith,
       simp length-set (c .before .before .before .before .before .loop .inv .2),
       rw (c .before .index .ensures .0)
-          (pointed-more (a .shares .now) (pointL (a .points .now) (a .exps .now) (a .place)) (a .lo) (c .before .before .before .before .before .loop .j) (a .out .now) (c .before .before .before .before .before .loop .out) (c .before .before .pointer .result) (c .before .before .before .before .before .loop .sum)
+          (pointed-more (a .shares .now) (pointL (a .points .now) (a .powers .now) (a .place)) (a .lo) (c .before .before .before .before .before .loop .j) (a .out .now) (c .before .before .before .before .before .loop .out) (c .before .before .pointer .result) (c .before .before .before .before .before .loop .sum)
           (c .before .before .before .before .before .loop .inv .0) (omega (arith, c .before .before .before .before .before .loop .inv .2)) (c .before .before .before .before .before .loop .inv .3) (c .before .before .pointer .ensures)),
     )
 

@@ -31,7 +31,7 @@ point-singles-requires c κs =
     let e = p .1 .0 .0 in
     let s = c .before .before .sooner .ensures in
     let m = c .before .later .ensures in (
-      (omega arith, omega arith, p .0 .3, record { size = e .size; low = λ j x y. e .low j x (omega (arith, p .0 .1)) }, p .1 .0 .1),
+      (omega arith, omega arith, p .0 .3, e, p .1 .0 .1),
       p .1 .1,
     )
 
@@ -45,7 +45,7 @@ point-bands-requires c κs =
     let k = c .later2 .ensures in (
       (p .0 .0, omega (arith, p .0 .1), p .0 .2, p .0 .3, λ h. rw (k, m, s, p .0 .4) (band-past (a .start) (a .end) (p .0 .2) (rw (m, s) at h))),
       (
-        (record { size = e .size; low = λ j x y. e .low j (omega arith) y }, c .before .before .before .before .point-singles .ensures .written .size ∙ p .1 .0 .1),
+        (e, c .before .before .before .before .point-singles .ensures .written .size ∙ p .1 .0 .1),
         p .1 .1,
       ),
     )
@@ -56,7 +56,7 @@ add-result c =
     let s = c .before .before .before .before .before .before .before .before .before .before .before .before .before .pre .1 .1 .1 in
     let m = c .before .before .before .before .before .before .before .before .before .later .ensures in
     let n = c .before .before .before .before .before .before .before .before .before .before .sooner .ensures in
-    let f = pointerL (a .points .now) (a .base) (a .exps .now) (a .place .now) in
+    let f = pointerL (a .points .now) (a .base) (a .powers .now) (a .place .now) in
     let one = pointed-most (a .shares .now) f 281474976710656 (a .start) (c .before .before .before .before .before .before .before .before .before .later .result) _ _ _ s (c .before .before .before .before .before .before .before .point-singles .ensures) in
     let two = pointed-most (a .shares .now) f 281474976710656 (c .before .before .before .before .before .before .before .before .before .later .result) (a .end) _ _ _ s (c .before .before .point-bands .ensures) in
     omega (arith, c .before .before .before .before .before .before .before .before .before .before .before .before .before .pre .0 .1, c .before .before .before .before .before .before .before .before .before .before .before .before .before .pre .0 .2)
@@ -70,7 +70,7 @@ returns c =
     let a = c .before .before .before .before .before .before .before .before .before .before .before .before .before .args in
     let s = c .before .before .before .before .before .before .before .before .before .before .sooner .ensures in
     let m = c .before .before .before .before .before .before .before .before .before .later .ensures in
-    let f = pointerL (a .points .now) (a .base) (a .exps .now) (a .place .now) in
+    let f = pointerL (a .points .now) (a .base) (a .powers .now) (a .place .now) in
     pointed-join (a .shares .now) f f (a .start) (c .before .before .before .before .before .before .before .before .before .later .result) (a .end) _ _ _ _ _
     (omega arith) (omega (arith, c .before .before .before .before .before .before .before .before .before .before .before .before .before .pre .0 .1)) (c .before .before .before .before .before .before .before .point-singles .ensures) (c .before .before .point-bands .ensures) (λ k x y. refl)
 

@@ -12,12 +12,12 @@ use Rattle.pointers.proofs.point_bands.Statement.{statement}
 use Rattle.pointers.proofs.point_bands.Tie as tie
 
 abbrev Inv-loop : tie.InvT-loop
-Inv-loop points shares ends exps place out₀ start end base first sum₀ j₀ k₀ out sum j k =
+Inv-loop points shares ends powers place out₀ start end base first sum₀ j₀ k₀ out sum j k =
     (start ≤ j) × (j ≤ end) × (j < end → BinBand j k) × (length out ≡ 256)
-    × Pointed shares (pointerL points base exps place) start j out₀ out sum
+    × Pointed shares (pointerL points base powers place) start j out₀ out sum
 
 abbrev μ-loop : tie.MeasureT-loop
-μ-loop points shares ends exps place out₀ start end base first sum₀ j₀ k₀ out sum j k =
+μ-loop points shares ends powers place out₀ start end base first sum₀ j₀ k₀ out sum j k =
     end - j
 
 loop-holds : tie.Need-loop-holds Inv-loop μ-loop
@@ -54,7 +54,7 @@ point-requires c κs =
         omega (arith, b .to, hi),
         omega (arith, hi, p .0 .2),
         omega (arith, c .before .index32 .ensures, p .1 .1 .0 (c .before .before .before .before .before .before .loop .k), p .0 .3),
-        record { size = e .size; low = λ j x y. e .low j (omega (arith, c .before .before .before .before .before .before .loop .inv .0)) (omega (arith, hi)) },
+        e,
         c .before .before .before .before .before .before .loop .inv .3,
       ),
       p .1 .1 .1,
@@ -93,9 +93,9 @@ loop-again c =
       omega (arith, hi),
       λ h. let e : c .before .before .before .before .before .before .sooner .result ≡ endOf k = omega (arith, hi) in rw e (next-band k (b .is) (omega (arith, p .0 .2))),
       w .written .size ∙ c .before .before .before .before .before .before .before .before .before .loop .inv .3,
-      pointed-join (a .shares .now) (pointerL (a .points .now) (a .base) (a .exps .now) (a .place .now)) _ (a .start) (c .before .before .before .before .before .before .before .before .before .loop .j) (c .before .before .before .before .before .before .sooner .result) (a .out .now) (c .before .before .before .before .before .before .before .before .before .loop .out) _ (c .before .before .before .before .before .before .before .before .before .loop .sum) (c .before .before .point .result)
+      pointed-join (a .shares .now) (pointerL (a .points .now) (a .base) (a .powers .now) (a .place .now)) _ (a .start) (c .before .before .before .before .before .before .before .before .before .loop .j) (c .before .before .before .before .before .before .sooner .result) (a .out .now) (c .before .before .before .before .before .before .before .before .before .loop .out) _ (c .before .before .before .before .before .before .before .before .before .loop .sum) (c .before .before .point .result)
           (c .before .before .before .before .before .before .before .before .before .loop .inv .0) (omega (arith, b .to, hi)) (c .before .before .before .before .before .before .before .before .before .loop .inv .4) w
-          (λ i x y. ap (λ n. pointL (a .points .now) (a .exps .now) (a .base + n) i)
+          (λ i x y. ap (λ n. pointL (a .points .now) (a .powers .now) (a .base + n) i)
           (c .before .before .before .before .index32 .ensures ∙ ap (λ n. getD (a .place .now) n 0) (same-band i k (omega (arith, hi, p .0 .2)) (b .is) (omega (arith, b .from)) (omega (arith, hi))))),
     )
 

@@ -1,6 +1,6 @@
 use mathlib.Core.Path.{_≡_, ap, _∙_, sym}
 use native.Mathlib.Omega.{arith}
-use Prim.Native.Nat.{_≤_, _+_, _-_, _*_}
+use Prim.Native.Nat.{_≤_, _+_, _-_}
 use lib.ListN.{length, length-set, getD}
 use Rattle.tables.proofs.Bins.{single-band}
 use Rattle.alloc.specs.Levels.{pointerL}
@@ -11,11 +11,11 @@ use Rattle.pointers.proofs.point_singles.Statement.{statement}
 use Rattle.pointers.proofs.point_singles.Tie as tie
 
 abbrev Inv-loop : tie.InvT-loop
-Inv-loop points shares exps place out₀ from to base sum₀ j₀ out sum j =
-    (from ≤ j) × (j ≤ to) × (length out ≡ 256) × Pointed shares (pointerL points base exps place) from j out₀ out sum
+Inv-loop points shares powers place out₀ from to base sum₀ j₀ out sum j =
+    (from ≤ j) × (j ≤ to) × (length out ≡ 256) × Pointed shares (pointerL points base powers place) from j out₀ out sum
 
 abbrev μ-loop : tie.MeasureT-loop
-μ-loop points shares exps place out₀ from to base sum₀ j₀ out sum j =
+μ-loop points shares powers place out₀ from to base sum₀ j₀ out sum j =
     to - j
 
 loop-holds : tie.Need-loop-holds Inv-loop μ-loop
@@ -40,7 +40,7 @@ shared-slice-read-pointer c =
 
 pointer-requires : tie.Need-pointer-requires Inv-loop μ-loop
 pointer-requires c κs =
-    (omega (arith, c .before .index32 .ensures, c .before .before .before .before .before .before .before .pre .0 .2, c .before .before .before .before .before .before .before .pre .1 .0 (c .before .before .before .before .loop .j)), c .before .before .before .before .before .before .before .pre .0 .3 .low _ (omega arith) (omega arith))
+    (omega (arith, c .before .index32 .ensures, c .before .before .before .before .before .before .before .pre .0 .2, c .before .before .before .before .before .before .before .pre .1 .0 (c .before .before .before .before .loop .j)), c .before .before .before .before .before .before .before .pre .0 .3 .low _)
 
 slice-write-out : tie.Need-slice-write-out Inv-loop μ-loop
 slice-write-out c =
@@ -59,9 +59,9 @@ loop-again c =
       omega arith,
       simp length-set (c .before .before .before .before .before .before .before .loop .inv .2),
       rw (c .before .index .ensures .0)
-          (pointed-more (a .shares .now) (pointerL (a .points .now) (a .base) (a .exps .now) (a .place .now)) (a .from) j (a .out .now) (c .before .before .before .before .before .before .before .loop .out) (c .before .before .pointer .result) (c .before .before .before .before .before .before .before .loop .sum)
+          (pointed-more (a .shares .now) (pointerL (a .points .now) (a .base) (a .powers .now) (a .place .now)) (a .from) j (a .out .now) (c .before .before .before .before .before .before .before .loop .out) (c .before .before .pointer .result) (c .before .before .before .before .before .before .before .loop .sum)
           (c .before .before .before .before .before .before .before .loop .inv .0) (omega (arith, c .before .before .before .before .before .before .before .before .before .before .pre .0 .1, c .before .before .before .before .before .before .before .loop .inv .2)) (c .before .before .before .before .before .before .before .loop .inv .3)
-          (c .before .before .pointer .ensures ∙ ap (λ x. getD (a .points .now) (a .base + x + 4 * getD (a .exps .now) j 0) 0) k)),
+          (c .before .before .pointer .ensures ∙ ap (λ x. getD (a .points .now) (a .base + x + getD (a .powers .now) j 0) 0) k)),
     )
 
 same-length : tie.Need-same-length Inv-loop μ-loop
