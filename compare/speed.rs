@@ -4,6 +4,7 @@
 //! whole (32,782 entries) and not cleared between calls; what the Rust takes for its lists, and gives back, is in its time.
 #![allow(dead_code)]
 mod both;
+mod clock;
 mod features;
 mod generate;
 mod names;
@@ -13,6 +14,7 @@ mod real;
 mod standard;
 mod theirs;
 use both::Rooms;
+use clock::now;
 use generate::{Drawer, Kind};
 use numbered::Answer;
 use std::hint::black_box;
@@ -53,25 +55,6 @@ fn by_size(real: &[(String, Vec<u8>)]) -> Vec<Set> {
         some.into_iter().step_by(step).cloned().collect()
     };
     BOUNDS.windows(2).map(|w| Set { title: format!("{} to {} bytes", w[0], w[1] - 1), frames: between(w[0], w[1]) }).collect()
-}
-
-#[repr(C)]
-struct Timespec {
-    seconds: i64,
-    nanoseconds: i64,
-}
-
-extern "C" {
-    fn clock_gettime(clock: i32, to: &mut Timespec) -> i32;
-}
-
-/// The processor's time of this thread, in nanoseconds.
-fn now() -> f64 {
-    const THREAD: i32 = 3;
-    let mut t = Timespec { seconds: 0, nanoseconds: 0 };
-    // C's clock_gettime of a 64-bit system.
-    assert!(unsafe { clock_gettime(THREAD, &mut t) } == 0);
-    t.seconds as f64 * 1e9 + t.nanoseconds as f64
 }
 
 /// The nanoseconds a frame of one turn.

@@ -1,0 +1,4 @@
+pub mod Syncs
+pub mod Readings
+pub mod Passing
+pub mod Finding
