@@ -1,4 +1,4 @@
-/* The E-AC-3 syncframe reader for C, and what changes a frame: link target/staticlib/libeac3_c.a (rt staticlib eac3_c), x86-64 Linux.
+/* The E-AC-3 syncframe reader for C, what finds the next frame of a capture, and what changes a frame: link target/staticlib/libeac3_c.a (rt staticlib eac3_c), x86-64 Linux.
  *
  * The caller owns every array; nothing is kept after the call, nothing is allocated, and the call may be made from
  * any number of threads at once. No array may overlap another. All lengths may be 0, and then the pointers are not read,
@@ -19,6 +19,10 @@ extern "C" {
 
 /* The longest frame, in bytes. What follows a frame in `data` is not looked at. */
 #define EAC3_BYTES 4096
+
+/* The same for eac3_parse_settop. */
+#define EAC3_SETTOP_RECORDS 12289
+#define EAC3_SETTOP_BYTES 1536
 
 /* Places in the answer. */
 enum eac3_answer {
@@ -58,6 +62,19 @@ uint8_t eac3_parse(const uint8_t *data, size_t bytes,
                    uint32_t *values, size_t values_room,
                    uint64_t answer[EAC3_ANSWER]);
 
+/* The same for frames of at most EAC3_SETTOP_BYTES bytes. A longer one, by its header, is refused with 46 at bit 32, after its
+ * first four records, whether `data` holds it or not; the other answers and records are those of eac3_parse. No byte behind
+ * the first EAC3_SETTOP_BYTES of `data` is read.
+ */
+uint8_t eac3_parse_settop(const uint8_t *data, size_t bytes,
+                          uint8_t *names, size_t names_room,
+                          int8_t *blocks, size_t blocks_room,
+                          int16_t *indexes, size_t indexes_room,
+                          uint16_t *firsts, size_t firsts_room,
+                          uint16_t *widths, size_t widths_room,
+                          uint32_t *values, size_t values_room,
+                          uint64_t answer[EAC3_ANSWER]);
+
 /* Sets one loudness word of the frame at the beginning of `frame`: dialnorm, dialnorm2, compr, compr2, dynrng or dynrng2, by
  * its place in the list (from 0), and puts crc2 right, also where it was wrong. No other bit changes; bytes behind the frame
  * stay. The answer and the records are those of the new frame. A refusal changes no byte: those of eac3_parse; 41, the place
@@ -73,6 +90,30 @@ uint8_t eac3_set_word(uint8_t *frame, size_t bytes,
                       uint32_t *values, size_t values_room,
                       size_t place, uint32_t value,
                       uint64_t answer[EAC3_ANSWER]);
+
+/* Further places in the answer of eac3_find. */
+enum eac3_found {
+    EAC3_POSITION = 76,        /* the byte of the capture at which the frame, or the reading without room, begins */
+    EAC3_TRIED = 77,           /* the positions that were read */
+    EAC3_FOUND = 78
+};
+
+/* Finds the next frame of `capture`: the positions from `start` to the last byte are read in order, at most `most` of them, until one
+ * holds a frame. Answer and records are those of eac3_parse for the bytes from answer[EAC3_POSITION] on, bit places count from there,
+ * and answer[EAC3_TRIED] is that position minus start plus one. Refusal 33 at a position ends the search likewise: there is no room
+ * for the records there. 44: no position is left (also where `start` is at or past the end); 45: `most` positions were read, and more
+ * are left. Under both the count is that of the last reading (0 where there was none), answer[EAC3_TRIED] how many were read, and all
+ * else is 0. Each reading writes the record arrays from their start, over what the one before left. Gives answer[EAC3_NUMBER].
+ */
+uint8_t eac3_find(const uint8_t *capture, size_t bytes,
+                  uint8_t *names, size_t names_room,
+                  int8_t *blocks, size_t blocks_room,
+                  int16_t *indexes, size_t indexes_room,
+                  uint16_t *firsts, size_t firsts_room,
+                  uint16_t *widths, size_t widths_room,
+                  uint32_t *values, size_t values_room,
+                  size_t start, size_t most,
+                  uint64_t answer[EAC3_FOUND]);
 
 #ifdef __cplusplus
 }

@@ -1,4 +1,5 @@
-/* Reads one frame from standard input and says where its blocks begin, how many bits their slots take, and which loudness words it has. */
+/* Reads one frame from standard input and says where its blocks begin, how many bits their slots take, and which loudness words it has; then how the settop
+ * entry answers to it, and to the same frame where it announces two bytes more than that entry takes. */
 #include "eac3.h"
 #include "eac3_names.h"
 #include <stdio.h>
@@ -24,6 +25,18 @@ static const char *loudness(uint8_t name)
     }
 }
 
+/* How the settop entry answers. */
+static void settop(const char *what, size_t n)
+{
+    uint64_t answer[EAC3_ANSWER];
+    uint8_t number = eac3_parse_settop(data, n, names, EAC3_SETTOP_RECORDS, blocks, EAC3_SETTOP_RECORDS, indexes, EAC3_SETTOP_RECORDS,
+                                       firsts, EAC3_SETTOP_RECORDS, widths, EAC3_SETTOP_RECORDS, values, EAC3_SETTOP_RECORDS, answer);
+    if (number != 0)
+        printf("settop, %s: refused %u at bit %u after %u records\n", what, number, (unsigned)answer[EAC3_PLACE], (unsigned)answer[EAC3_FIELDS]);
+    else
+        printf("settop, %s: accepted, %u records\n", what, (unsigned)answer[EAC3_FIELDS]);
+}
+
 int main(void)
 {
     uint64_t answer[EAC3_ANSWER];
@@ -47,5 +60,10 @@ int main(void)
     for (size_t i = 0; i < answer[EAC3_FIELDS]; i++)
         if (loudness(names[i]) != NULL)
             printf("%s %u in %u bits from bit %u\n", loudness(names[i]), (unsigned)values[i], widths[i], firsts[i]);
+    settop("the frame", n);
+    /* frmsiz 768 announces 1,538 bytes */
+    data[2] = (data[2] & 0xf8) | 3;
+    data[3] = 0;
+    settop("two bytes more", n);
     return 0;
 }

@@ -1,4 +1,4 @@
-//! The E-AC-3 syncframe reader for Rust, and what changes a frame: a safe wrapper of the static library (rt staticlib eac3_c), without allocation.
+//! The E-AC-3 syncframe reader for Rust, what finds the next frame of a capture, and what changes a frame: a safe wrapper of the static library (rt staticlib eac3_c), without allocation.
 
 #[allow(improper_ctypes)]
 extern "C" {
@@ -6,9 +6,17 @@ extern "C" {
         data: &[u8], names: &mut [u8], blocks: &mut [i8], indexes: &mut [i16], firsts: &mut [u16], widths: &mut [u16], values: &mut [u32],
         answer: &mut [u64; 76],
     ) -> u8;
+    fn eac3_parse_settop(
+        data: &[u8], names: &mut [u8], blocks: &mut [i8], indexes: &mut [i16], firsts: &mut [u16], widths: &mut [u16], values: &mut [u32],
+        answer: &mut [u64; 76],
+    ) -> u8;
     fn eac3_set_word(
         frame: &mut [u8], names: &mut [u8], blocks: &mut [i8], indexes: &mut [i16], firsts: &mut [u16], widths: &mut [u16], values: &mut [u32],
         place: usize, value: u32, answer: &mut [u64; 76],
+    ) -> u8;
+    fn eac3_find(
+        capture: &[u8], names: &mut [u8], blocks: &mut [i8], indexes: &mut [i16], firsts: &mut [u16], widths: &mut [u16], values: &mut [u32],
+        start: usize, most: usize, answer: &mut [u64; 78],
     ) -> u8;
 }
 
@@ -17,6 +25,10 @@ pub const RECORDS: usize = 32_782;
 
 /// The longest frame, in bytes.
 pub const BYTES: usize = 4_096;
+
+/// The same for `parse_settop`.
+pub const SETTOP_RECORDS: usize = 12_289;
+pub const SETTOP_BYTES: usize = 1_536;
 
 /// Room for `N` records; it is the caller's, and is lent for each reading.
 pub struct Room<const N: usize> {
@@ -107,6 +119,19 @@ pub fn parse<const N: usize>(data: &[u8], room: &mut Room<N>) -> Result<Frame, R
     told(number, &a)
 }
 
+/// Reads a frame of at most 1,536 bytes. A longer one, by its header, is refused with 46; the other answers are those of `parse`.
+/// No byte behind the first 1,536 is read.
+pub fn parse_settop<const N: usize>(data: &[u8], room: &mut Room<N>) -> Result<Frame, Refusal> {
+    let mut a = [0u64; 76];
+    // Likewise, for every slice and every room.
+    let number = unsafe {
+        eac3_parse_settop(
+            data, &mut room.names, &mut room.blocks, &mut room.indexes, &mut room.firsts, &mut room.widths, &mut room.values, &mut a,
+        )
+    };
+    told(number, &a)
+}
+
 /// Sets one loudness word of the frame at the beginning of `data`, by its place in the list, and puts crc2 right. The frame and
 /// the records in the room are those of the new frame; a refusal changes no byte.
 pub fn set_word<const N: usize>(data: &mut [u8], room: &mut Room<N>, place: usize, value: u32) -> Result<Frame, Refusal> {
@@ -121,8 +146,62 @@ pub fn set_word<const N: usize>(data: &mut [u8], room: &mut Room<N>, place: usiz
     told(number, &a)
 }
 
+/// What a search ends with: a frame, or the refusal 33, at a position of the capture; or the refusal 44, no position is left, or 45, the
+/// allowance is used up, both with the position 0. `tried` positions were read.
+#[derive(Clone, Copy, Debug, PartialEq, Eq)]
+pub struct Found {
+    pub answer: Result<Frame, Refusal>,
+    pub position: usize,
+    pub tried: usize,
+}
+
+/// Finds the next frame of a capture: the positions from `start` on are read in order, at most `most` of them. The records of the frame
+/// stand in the room afterwards, and behind them what the readings before left.
+pub fn find<const N: usize>(capture: &[u8], room: &mut Room<N>, start: usize, most: usize) -> Found {
+    let mut a = [0u64; 78];
+    // Likewise, for every start and every allowance.
+    let number = unsafe {
+        eac3_find(
+            capture, &mut room.names, &mut room.blocks, &mut room.indexes, &mut room.firsts, &mut room.widths, &mut room.values, start, most,
+            &mut a,
+        )
+    };
+    Found { answer: told(number, &a[..76]), position: a[76] as usize, tried: a[77] as usize }
+}
+
+/// The frames of a capture in their order, each with its position: the search goes on behind each frame, and over what holds none. It
+/// stops at the capture's end, or at the first frame whose records the room does not hold, which it hands out as the refusal 33. The
+/// records of the frame that was handed out last stand in `room`.
+pub struct Frames<'a, const N: usize> {
+    capture: &'a [u8],
+    pub room: &'a mut Room<N>,
+    start: usize,
+}
+
+pub fn frames<'a, const N: usize>(capture: &'a [u8], room: &'a mut Room<N>) -> Frames<'a, N> {
+    Frames { capture, room, start: 0 }
+}
+
+impl<const N: usize> Iterator for Frames<'_, N> {
+    type Item = (usize, Result<Frame, Refusal>);
+
+    fn next(&mut self) -> Option<Self::Item> {
+        let found = find(self.capture, self.room, self.start, usize::MAX);
+        match found.answer {
+            Ok(frame) => self.start = found.position + usize::from(frame.bytes),
+            Err(refusal) => {
+                self.start = self.capture.len();
+                if refusal.number != 33 {
+                    return None;
+                }
+            }
+        }
+        Some((found.position, found.answer))
+    }
+}
+
 /// What an answer says.
-fn told(number: u8, a: &[u64; 76]) -> Result<Frame, Refusal> {
+fn told(number: u8, a: &[u64]) -> Result<Frame, Refusal> {
     if number != 0 {
         return Err(Refusal { number, place: a[1] as u16, records: a[2] as usize });
     }

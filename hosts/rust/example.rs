@@ -1,4 +1,5 @@
-//! Reads one frame from standard input and prints how many bits its records of each block take, and how many its mantissas, slot by slot.
+//! Reads one frame from standard input and prints how many bits its records of each block take, and how many its mantissas, slot by slot; then how the settop entry
+//! answers to it, and to the same frame where it announces two bytes more than that entry takes.
 #[allow(dead_code)]
 mod eac3;
 use std::io::Read;
@@ -17,6 +18,11 @@ fn main() {
             for (block, slots) in frame.slot_bits.iter().take(frame.numblks.into()).enumerate() {
                 println!("mantissas of block {block} by slot: {slots:?} bits");
             }
+            println!("settop, the frame: {:?}", eac3::parse_settop(&data, &mut room).map(|f| f.records));
+            // frmsiz 768 announces 1,538 bytes
+            data[2] = data[2] & 0xf8 | 3;
+            data[3] = 0;
+            println!("settop, two bytes more: {:?}", eac3::parse_settop(&data, &mut room).map(|f| f.records));
         }
         Err(refusal) => {
             println!("refused {} at bit {} after {} records", refusal.number, refusal.place, refusal.records);

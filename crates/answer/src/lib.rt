@@ -48,31 +48,6 @@ pub struct Answer {
     pub frame: Frame,
 }
 
-// Nothing is known of a frame.
-fn none() -> Frame
-    ensures { λ r. ⌜ r ≡ nothing ⌝ }
-{
-    Frame {
-        bytes: ByteCount(0),
-        fields: 0,
-        bsid: 0,
-        acmod: 0,
-        lfeon: false,
-        fscod: 0,
-        strmtyp: 0,
-        substreamid: 0,
-        numblks: 0,
-        block_starts: [BitPlace(0); 6],
-        mantissa_starts: [BitPlace(0); 6],
-        audio_end: BitPlace(0),
-        aht_tags: 0,
-        aht_slots: [false; 7],
-        spx_blocks: 0,
-        cpl_blocks: 0,
-        slot_bits: [SlotBits { bits: [0; 7] }; 6],
-    }
-}
-
 // Six places, from the cell k on.
 fn six_places(cells: &[u16; 1024], k: usize) -> [BitPlace; 6]
     requires { ⌜ k ≤ 1024 ⌝ }
@@ -160,14 +135,32 @@ fn frame_of(cells: &[u16; 1024], at: BitPlace, count: usize) -> Frame
     }
 }
 
-// The answer of a reading that was stopped.
+// The answer of a reading that was stopped. Its frame is written out here: one that a function returns would be copied.
 pub fn refusal(cur: Cursor) -> Answer
     ensures { λ r. ⌜ r ≡ refusalFrom cur ⌝ }
 {
     let at = cur.at;
     Answer {
         verdict: Verdict::Refused(cur.number, at, cur.count),
-        frame: none(),
+        frame: Frame {
+            bytes: ByteCount(0),
+            fields: 0,
+            bsid: 0,
+            acmod: 0,
+            lfeon: false,
+            fscod: 0,
+            strmtyp: 0,
+            substreamid: 0,
+            numblks: 0,
+            block_starts: [BitPlace(0); 6],
+            mantissa_starts: [BitPlace(0); 6],
+            audio_end: BitPlace(0),
+            aht_tags: 0,
+            aht_slots: [false; 7],
+            spx_blocks: 0,
+            cpl_blocks: 0,
+            slot_bits: [SlotBits { bits: [0; 7] }; 6],
+        },
     }
 }
 

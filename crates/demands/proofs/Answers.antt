@@ -10,23 +10,23 @@ use borrow.Author.Tests.{eqb-true}
 use Rattle.reading.specs.Run.{Entry, end, Result, accepted, refused, Outcome}
 use Rattle.reading.specs.Records.{Tiles, Whole, Tiled}
 use Rattle.reading.specs.Room.{Room, size, pushed, fill, cutAt, cut}
-use Rattle.reading.specs.Frame.{parse}
+use Rattle.reading.specs.Frame.{Format, Announces, parse}
 use Rattle.reading.proofs.Laws.{tiles-le}
 use Rattle.rows.specs.Syntax.{among}
 use Rattle.cells.specs.Cells.{State}
 use Rattle.annex.specs.Frame.{announcedBy, eac3}
 use Rattle.annex.proofs.Header.{tells}
-use Rattle.outcomes.specs.Outcomes.{refusals, Numbered}
+use Rattle.outcomes.specs.Outcomes.{refusals, Numbered, farthest}
 use Rattle.outcomes.proofs.Outcomes.{all-keep}
 use Rattle.answer.specs.Answer.{answerBy, numberOf, placeOf}
-use Rattle.demands.specs.Calls.{count}
-use Rattle.demands.specs.Answers.{numbers, Kept, AllAnswer}
+use Rattle.demands.specs.Calls.{CallBy, count}
+use Rattle.demands.specs.Answers.{numbers, Kept, AnswersBy, AllAnswer}
 use Rattle.demands.proofs.Rooms.{cut-fits}
 use Rattle.demands.proofs.Calls.{outcome, is, accepts, counts, bytes as bytes-of}
 use Rattle.demands.proofs.Gapless.{parse-tiled, accepted-ends}
 
 -- a list of numbers that are all on another
-allAmong : List ℕ → List ℕ → Bool
+unfoldable pub allAmong : List ℕ → List ℕ → Bool
 allAmong [] ys = true
 allAmong (x ∷ xs) ys = among ys x && allAmong xs ys
 
@@ -40,31 +40,27 @@ among-all (x ∷ xs) ys n h e = go (among ys x) (eqb n x) refl refl h e (λ i j.
     go true false q r h e f = f h e
     go false b q r h e f = absurd (true≢false (sym h))
 
--- a cut keeps the numbers, with 33 more, and the place
-listed : allAmong (33 ∷ refusals) numbers ≡ true
-unfolding allAmong among refusals numbers
-listed = refl
+-- a result with the number of a refusal of a list; a cut keeps it, with 33 more
+abbrev pub NumberedBy : {A : Type 0} → List ℕ → Result A → Type 0
+NumberedBy rs (accepted a) = Unit {0}
+NumberedBy rs (refused n) = among rs n ≡ true
 
 module _ {A : Type 0} where
-  abbrev Listed : Result A → Type 0
-  Listed (accepted a) = Unit {0}
-  Listed (refused n) = among (33 ∷ refusals) n ≡ true
-
-  numbered-listed : (r : Result A) → Numbered r → Listed r
+  numbered-listed : (rs : List ℕ) (r : Result A) → NumberedBy rs r → NumberedBy (33 ∷ rs) r
   unfolding among
-  numbered-listed (accepted a) h = tt
-  numbered-listed (refused n) h = more (eqb n 33) h
+  numbered-listed rs (accepted a) h = tt
+  numbered-listed rs (refused n) h = more (eqb n 33) h
     where
-      more : (c : Bool) → among refusals n ≡ true → (c || among refusals n) ≡ true
+      more : (c : Bool) → among rs n ≡ true → (c || among rs n) ≡ true
       more true h = refl
       more false h = h
 
-  cut-listed : (n : ℕ) (o : Outcome A) → Numbered (o .result) → Listed (cut n o .result)
+  cut-listed : (rs : List ℕ) (n : ℕ) (o : Outcome A) → NumberedBy rs (o .result) → NumberedBy (33 ∷ rs) (cut n o .result)
   unfolding cut among
-  cut-listed n o h = go n (o .records)
+  cut-listed rs n o h = go n (o .records)
     where
-      go : (n : ℕ) (es : List Entry) → Listed (cutAt n (o .result) (o .place) es .result)
-      go n [] = numbered-listed (o .result) h
+      go : (n : ℕ) (es : List Entry) → NumberedBy (33 ∷ rs) (cutAt n (o .result) (o .place) es .result)
+      go n [] = numbered-listed rs (o .result) h
       go zero (e ∷ es) = refl
       go (suc n) (e ∷ es) = go n es
 
@@ -81,11 +77,11 @@ module _ {A : Type 0} where
       go zero q (e ∷ es) h = omega (arith, tiles-le (end (e .field)) (t .upto) es (h .1), upto-place (o .result) (t .upto) (o .place) (t .whole))
       go (suc n) q (e ∷ es) h = go n (end (e .field)) es (h .1)
 
--- the answer of an outcome
-number-by : (r : Result State) (p n : ℕ) → Listed r → among numbers (numberOf (answerBy r p n)) ≡ true
-unfolding among numbers
-number-by (accepted st) p n h = refl
-number-by (refused k) p n h = among-all (33 ∷ refusals) numbers k listed h
+-- the answer of an outcome; 0 is the number of an accepted frame
+number-by : (rs given : List ℕ) (r : Result State) (p n : ℕ) → allAmong (33 ∷ rs) given ≡ true → among given 0 ≡ true → NumberedBy (33 ∷ rs) r
+    → among given (numberOf (answerBy r p n)) ≡ true
+number-by rs given (accepted st) p n l z h = z
+number-by rs given (refused k) p n l z h = among-all (33 ∷ rs) given k l h
 
 place-by : (r : Result State) (p n : ℕ) → placeOf (answerBy r p n) ≤ p
 place-by (accepted st) p n = let z : 8 * (p / 8) ≤ p = omega arith in z
@@ -130,19 +126,19 @@ fill-keeps n (e ∷ es) m k h =
       values = kept-set n k (e .field .value) (m .values) _ i (r .values);
     }
 
-pub all-answer : AllAnswer
-unfolding eac3
-all-answer s c = record {
-  number = rw (is c) (number-by (outcome c .result) (outcome c .place) (0 + length (outcome c .records)) (cut-listed (size (c .lent)) (parse eac3 s) (all-keep s .numbered)));
-  fits = omega (arith, counts c, cut-fits (size (c .lent)) (parse eac3 s));
+pub answers-by : (F : Format State State) → Announces F → (rs given : List ℕ) (bits : ℕ) → allAmong (33 ∷ rs) given ≡ true → among given 0 ≡ true → (s : List ℕ)
+    → NumberedBy rs (parse F s .result) → parse F s .place ≤ bits → F .announced s ≡ announcedBy s → (c : CallBy F s) → AnswersBy given bits s c
+answers-by F told rs given bits listed none s numbered far says c = record {
+  number = rw (is c) (number-by rs given (outcome c .result) (outcome c .place) (0 + length (outcome c .records)) listed none (cut-listed rs (size (c .lent)) (parse F s) numbered));
+  fits = omega (arith, counts c, cut-fits (size (c .lent)) (parse F s));
   place = rw (is c)
       (let u = place-by (outcome c .result) (outcome c .place) (0 + length (outcome c .records)) in
-      omega (arith, cut-place (size (c .lent)) 0 (parse eac3 s) (parse-tiled eac3 s), all-keep s .place));
+      omega (arith, cut-place (size (c .lent)) 0 (parse F s) (parse-tiled F s)));
   bytes = λ a.
       let u = accepts c a in
       let e = bytes-of c a in
-      let f = accepted-ends eac3 tells (size (c .lent)) s (u .0) (u .1) in
-      e ∙ (let z : outcome c .place / 8 ≡ announcedBy s = omega arith in z);
+      let f = accepted-ends F told (size (c .lent)) s (u .0) (u .1) in
+      e ∙ (let z : outcome c .place / 8 ≡ announcedBy s = omega (arith, says) in z);
   names = kept .names;
   blocks = kept .blocks;
   indexes = kept .indexes;
@@ -153,3 +149,15 @@ all-answer s c = record {
   where
     kept : KeptRoom (count c) (c .lent) (c .left)
     kept = rw (c .called .left) (fill-keeps (count c) (outcome c .records) (c .lent) 0 (omega (arith, counts c)))
+
+listed : (allAmong (33 ∷ refusals) numbers ≡ true) × (among numbers 0 ≡ true)
+unfolding allAmong among refusals numbers
+listed = (refl, refl)
+
+numbered : (r : Result State) → Numbered r → NumberedBy refusals r
+numbered (accepted a) h = tt
+numbered (refused n) h = h
+
+pub all-answer : AllAnswer
+unfolding eac3
+all-answer s c = answers-by eac3 tells refusals numbers farthest (listed .0) (listed .1) s (numbered (parse eac3 s .result) (all-keep s .numbered)) (all-keep s .place) refl c

@@ -8,15 +8,14 @@ use native.Mathlib.Nat.{zero-add}
 use lib.ListN.{length, getElem?}
 use Rattle.reading.specs.Run.{Field, Result, accepted, refused, Outcome}
 use Rattle.reading.specs.Room.{Room, size, cut}
-use Rattle.reading.specs.Frame.{parse}
+use Rattle.reading.specs.Frame.{Format, parse}
 use Rattle.reading.specs.CommonReading.{list}
 use Rattle.cells.specs.Cells.{State}
-use Rattle.annex.specs.Frame.{eac3}
 use Rattle.bits.specs.declared.BitPlace.{BitPlace}
 use Rattle.answer.specs.Answer.{answerBy, answerOf, placeAt}
 use Rattle.answer.specs.declared.Answer.{Answer}
 use Rattle.answer.specs.declared.Verdict.the-variants.{Accepted, Refused}
-use Rattle.demands.specs.Calls.{Call, recordAt, count, nth, Accepts, Refuses}
+use Rattle.demands.specs.Calls.{CallBy, recordAt, count, nth, Accepts, Refuses}
 use Rattle.demands.proofs.Rooms.{cut-fits, filled, within}
 
 -- an answer that accepts, and one that refuses
@@ -32,10 +31,10 @@ bytes-by : (r : Result State) (p n : ℕ) → answerBy r p n .verdict ≡ Accept
 bytes-by (accepted st) p n e = refl
 bytes-by (refused k) p n e = absurd (let z : _≡_ {A = ℕ} 0 1 = cc in omega arith)
 
-module _ {s : List ℕ} (c : Call s) where
+module _ {F : Format State State} {s : List ℕ} (c : CallBy F s) where
   -- the definition's outcome, with the room that was lent
   abbrev pub outcome : Outcome State
-  outcome = cut (size (c .lent)) (parse eac3 s)
+  outcome = cut (size (c .lent)) (parse F s)
 
   pub is : c .answer ≡ answerBy (outcome .result) (outcome .place) (0 + length (outcome .records))
   unfolding answerOf
@@ -61,7 +60,7 @@ module _ {s : List ℕ} (c : Call s) where
   pub holds : (i : ℕ) → i < count c → getElem? (list outcome) i ≡ some (nth c i)
   holds i h =
       let k : i < length (outcome .records) = omega (arith, counts) in
-      let f : 0 + length (outcome .records) ≤ size (c .lent) = let z = cut-fits (size (c .lent)) (parse eac3 s) in omega arith in
+      let f : 0 + length (outcome .records) ≤ size (c .lent) = let z = cut-fits (size (c .lent)) (parse F s) in omega arith in
       filled (outcome .records) (c .lent) 0 i f k
       ∙ ap (λ (m : Room). some (recordAt m (0 + i))) (sym (c .called .left))
       ∙ ap (λ j. some (recordAt (c .left) j)) (zero-add i)

@@ -17,9 +17,10 @@ use Rattle.reading.specs.CommonReading.{Holds}
 use Rattle.reading.proofs.Laws.{tiled, tiled-after}
 use Rattle.reading.proofs.Rooms.{cut-same}
 use Rattle.reading.proofs.Frames.{whole, parse-whole, whole-ends}
+use Rattle.cells.specs.Cells.{State}
 use Rattle.annex.specs.Frame.{eac3}
 use Rattle.annex.proofs.Header.{tells}
-use Rattle.demands.specs.Calls.{Call, count, nth}
+use Rattle.demands.specs.Calls.{CallBy, Call, count, nth}
 use Rattle.demands.specs.Gapless.{Gapless}
 use Rattle.demands.proofs.Calls.{outcome, accepts, counts, bytes, holds}
 
@@ -109,9 +110,8 @@ reach : {A : Type 0} (r : Result A) (a : A) {m p : ℕ} → r ≡ accepted a →
 reach (accepted b) a e w = w
 reach (refused k) a e w = absurd (let z : _≡_ {A = ℕ} 0 1 = cc in omega arith)
 
-pub gapless : (s : List ℕ) (c : Call s) → Gapless s c
-unfolding eac3
-gapless s c = record {
+pub gapless-by : (F : Format State State) → Announces F → (s : List ℕ) (c : CallBy F s) → Gapless s c
+gapless-by F told s c = record {
   begins = λ h. tile-first (outcome c .records) 0 (T .upto) (nth c 0) (T .tiles) (holds c 0 h);
   goes-on = λ i h.
       let k : i < count c = omega arith in
@@ -121,7 +121,7 @@ gapless s c = record {
       let k : i < count c = omega arith in
       let u = accepts c a in
       let l : suc i ≡ length (outcome c .records) = omega (arith, counts c) in
-      let p = accepted-ends eac3 tells (size (c .lent)) s (u .0) (u .1) in
+      let p = accepted-ends F told (size (c .lent)) s (u .0) (u .1) in
       let e : end (nth c i) ≡ T .upto = tile-last (outcome c .records) 0 (T .upto) i (nth c i) (T .tiles) (holds c i k) l in
       let w : T .upto ≡ outcome c .place = reach (outcome c .result) (u .0) (u .1) (T .whole) in
       let b = bytes c a in
@@ -130,4 +130,7 @@ gapless s c = record {
 }
   where
     T : Tiled 0 (outcome c)
-    T = cut-tiled _ 0 (parse eac3 s) (parse-tiled eac3 s)
+    T = cut-tiled _ 0 (parse F s) (parse-tiled F s)
+
+pub gapless : (s : List ℕ) (c : Call s) → Gapless s c
+gapless = gapless-by eac3 tells

@@ -3,9 +3,11 @@ use Prim.Native.Nat.{ℕ, _+_, _*_, _<_}
 use mathlib.Core.Path.{_≡_}
 use mathlib.Core.List.{List}
 use Rattle.reading.specs.Run.{end}
-use Rattle.demands.specs.Calls.{Call, count, nth, Accepts}
+use Rattle.reading.specs.Frame.{Format}
+use Rattle.cells.specs.Cells.{State}
+use Rattle.demands.specs.Calls.{CallBy, count, nth, Accepts}
 
-pub record Gapless (s : List ℕ) (c : Call s) : Type 0 where
+pub record Gapless {F : Format State State} (s : List ℕ) (c : CallBy F s) : Type 0 where
   pub begins : 0 < count c → nth c 0 .first ≡ 0
   pub goes-on : (i : ℕ) → i + 1 < count c → nth c (i + 1) .first ≡ end (nth c i)
   pub ends : Accepts c → (i : ℕ) → i + 1 ≡ count c → end (nth c i) ≡ 8 * c .answer .frame .bytes .0

@@ -4,9 +4,10 @@ use mathlib.Core.Bool.{false, cond}
 use mathlib.Core.List.{List}
 use Prim.Native.Nat.{ℕ, _-_, _<_}
 use Rattle.reading.specs.Run.{refused, Outcome, after}
-use Rattle.reading.specs.Frame.{headed, sized}
+use Rattle.reading.specs.Frame.{headed}
 use Rattle.reading.specs.Room.{Room, size, cut, Out, got, into}
-use Rattle.syntax.specs.Records.{outcome, haltedAt}
+use Rattle.short_frames.specs.Tested.{tested}
+use Rattle.syntax.specs.Records.{outcome}
 use Rattle.syntax.specs.Rooms.{Fills}
 use Rattle.syntax.specs.declared.Cursor.{Cursor}
 use Rattle.slots.specs.Held.{Bins}
@@ -24,10 +25,6 @@ placed n m o = into n m (cut (size m - n) o)
 unfoldable pub followed : Cursor → State → Room → (State → ℕ → Outcome State) → Out State
 followed c st m f = cond (c .stopped) (got (refused (c .number)) (c .at .0) (c .count) m) (placed (c .count) m (f st (c .at .0)))
 
--- a cursor stopped by the refusal k at the place p, unless it is stopped already
-abbrev pub stoppedBy : ℕ → ℕ → Cursor → Cursor
-stoppedBy k p c = cond (c .stopped) c (haltedAt p (c .count) k)
-
 -- what follows the header asks: the rows of Annex E, exponents and allocations that are right, the room, and a size that frmsiz can say
 pub record Headed (t cells : List ℕ) (b : Bins) (mem : List ℕ) (most : ℕ) (m : Room) (c : Cursor) : Type 0 where
   pub annexed : Annexed t
@@ -35,11 +32,11 @@ pub record Headed (t cells : List ℕ) (b : Bins) (mem : List ℕ) (most : ℕ) 
   pub fills : Fills most m
   pub small : c .stopped ≡ false → cellOf cells FRMSIZ < 2048
 
--- what it tells: the frame after its header, with the cells that the body left
-pub record Framed (s : List ℕ) (c : Cursor) (st : State) (m : Room) (r : Cursor) (cells : List ℕ) (m′ : Room) : Type 0 where
+-- what it tells, of frames up to the greatest: the frame after its header, with the cells that the body left
+pub record Framed (greatest : ℕ) (s : List ℕ) (c : Cursor) (st : State) (m : Room) (r : Cursor) (cells : List ℕ) (m′ : Room) : Type 0 where
   pub bins : Bins
-  pub is : outcome r (state cells bins) m′ ≡ followed c st m (sized eac3 s)
+  pub is : outcome r (state cells bins) m′ ≡ followed c st m (tested greatest eac3 s)
 
 -- a slice of 6 bytes or more
-unfoldable pub readOf : List ℕ → Outcome State
-readOf s = after (headed eac3 s) (sized eac3 s)
+unfoldable pub readOf : ℕ → List ℕ → Outcome State
+readOf greatest s = after (headed eac3 s) (tested greatest eac3 s)

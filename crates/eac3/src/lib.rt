@@ -1,18 +1,17 @@
 // The reader of E-AC-3 syncframes (eac3.rs; A/52 Annex E, TS 102 366 Annex E).
 ghost use mathlib.Core.Path.{_≡_};
-ghost use mathlib.Core.Bool.{true, _&&_};
 ghost use Prim.Native.Nat.{_+_, _-_, _*_, _%_, _≤_, _<_};
-ghost use lib.Dec.{eqb};
 ghost use lib.ListN.{length};
-ghost use Rattle.reading.specs.Frame.{seen};
 ghost use Rattle.reading.specs.Room.{room};
 ghost use Rattle.slots.specs.Held.{bins};
 ghost use Rattle.cells.specs.Cells.{state, cellOf, putIn};
 ghost use Rattle.cells.specs.Names.{FRMSIZ as frmsiz, FRAME-END, AUXDATAE as auxdatae};
-ghost use Rattle.annex.specs.Frame.{start, bsidAhead, eac3};
+ghost use Rattle.annex.specs.Frame.{start, eac3};
 ghost use Rattle.bits.specs.Bits.{bitsAt};
-ghost use Rattle.eac3.specs.Called.{Called};
-ghost use Rattle.eac3.specs.Parts.{stoppedBy, Headed, Framed};
+ghost use Rattle.opening.specs.Opened.{Begun};
+ghost use Rattle.short_frames.specs.ShortFrames.{upTo};
+ghost use Rattle.eac3.specs.Called.{CalledBy, Called, SettopCalled};
+ghost use Rattle.eac3.specs.Parts.{Headed, Framed};
 use annex::annex;
 use answer::Answer;
 use answer::answer_of;
@@ -25,10 +24,10 @@ use cells::numbers::AUXDATAE;
 use cells::numbers::FRAME_END;
 use cells::numbers::FRMSIZ;
 use cells::put;
-use names::numbers::SYNCWORD;
+use opening::begin;
+use short_frames::unfit;
 use syntax::Cursor;
 use syntax::halted;
-use syntax::keep;
 use syntax::least;
 use walk::each;
 
@@ -41,8 +40,10 @@ const AFTER_TAIL: usize = 510;
 
 const ONCE: u32 = 1;
 
-// The word that a frame begins with.
-const SYNC: u32 = 0x0B77;
+// How many bytes a frame has at most: as many as frmsiz can say, and those of a settop box's frame memory.
+const FULL: u16 = 4096;
+
+const SETTOP: u16 = 1536;
 
 // How many bytes a frame has, by its header.
 fn bytes_of(cells: &[u16; 1024]) -> ByteCount
@@ -62,25 +63,6 @@ fn earlier(at: BitPlace, width: u16) -> BitPlace
     }
 }
 
-// A refusal at a place, unless the cursor is stopped already.
-fn stopped(cur: Cursor, number: u8, at: BitPlace) -> Cursor
-    ensures { λ r. ⌜ r ≡ stoppedBy number (at .0) cur ⌝ }
-{
-    if cur.stopped {
-        return cur;
-    }
-    halted(at, cur.count, number)
-}
-
-// Whether a slice begins like an E-AC-3 frame: with the sync word, and with a bsid of 11 to 16, which is looked at ahead.
-fn begins(src: &[u8], word: u32) -> bool
-    requires { ⌜ 6 ≤ length (now src) ⌝ }
-    ensures { λ r. ⌜ r ≡ (eqb word 0x0B77 && bsidAhead .good (bitsAt (now (src .entry)) 40 5)) ⌝ }
-{
-    let bsid = bits_at(src, BitPlace(40), 5);
-    word == SYNC && (11 <= bsid && bsid <= 16)
-}
-
 // The cells of the tail: where the frame ends, and auxdatae, which is looked at ahead.
 fn tail_cells(src: &[u8], limit: BitPlace) -> [u16; 1024]
     requires { ⌜ (16 ≤ limit .0) × (limit .0 ≤ 8 * length (now src)) ⌝ }
@@ -92,7 +74,7 @@ fn tail_cells(src: &[u8], limit: BitPlace) -> [u16; 1024]
     cells
 }
 
-// The frame after its header, if the slice holds it: the body, and then the tail.
+// The frame after its header, if it is not above the greatest and the slice holds it: the body, and then the tail.
 fn framed(
     src: &[u8],
     names: &mut [u8],
@@ -107,18 +89,20 @@ fn framed(
     baps: &mut [u8; 1792],
     memo: &mut [u64; 42],
     most: usize,
+    greatest: ByteCount,
     cur: Cursor,
 ) -> Cursor
     requires { ⌜ Headed (now table) (now cells) (bins (now exps) (now baps)) (now memo) most (room (now names) (now blocks) (now indexes) (now firsts) (now widths) (now values)) cur ⌝ }
-    ensures { λ r. ⌜ Framed (now (src .entry)) cur (state (now (cells .entry)) (bins (now (exps .entry)) (now (baps .entry)))) (room (now (names .entry)) (now (blocks .entry)) (now (indexes .entry)) (now (firsts .entry)) (now (widths .entry)) (now (values .entry)))
+    ensures { λ r. ⌜ Framed (greatest .0) (now (src .entry)) cur (state (now (cells .entry)) (bins (now (exps .entry)) (now (baps .entry)))) (room (now (names .entry)) (now (blocks .entry)) (now (indexes .entry)) (now (firsts .entry)) (now (widths .entry)) (now (values .entry)))
         r (now (cells .exit)) (room (now (names .exit)) (now (blocks .exit)) (now (indexes .exit)) (now (firsts .exit)) (now (widths .exit)) (now (values .exit))) ⌝ }
 {
     if cur.stopped {
         return cur;
     }
     let bytes = bytes_of(cells);
-    if src.len() < bytes.0 as usize {
-        return halted(cur.at, cur.count, 4);
+    let number = unfit(greatest, bytes, src.len());
+    if 0 < number {
+        return halted(cur.at, cur.count, number);
     }
     let limit = bytes.bits();
     let c = each(
@@ -173,9 +157,8 @@ fn framed(
     )
 }
 
-// A slice of 6 bytes or more with a good bsid: table, cells and bins are laid, and header, body and tail are run. The entry comes here only where it has
-// seen the sync word.
-fn synced(
+// A frame of at most so many bytes, where the slice begins like one: table, cells and bins are laid, and header, body and tail are run.
+fn begun(
     src: &[u8],
     names: &mut [u8],
     blocks: &mut [i8],
@@ -183,9 +166,10 @@ fn synced(
     firsts: &mut [u16],
     widths: &mut [u16],
     values: &mut [u32],
+    greatest: ByteCount,
 ) -> Answer
-    requires { ⌜ (6 ≤ length (now src)) × (eac3 .look .good (seen eac3 (now src)) ≡ true) ⌝ }
-    ensures { λ r. ⌜ Called (now (src .entry)) (room (now (names .entry)) (now (blocks .entry)) (now (indexes .entry)) (now (firsts .entry)) (now (widths .entry)) (now (values .entry))) r (room (now (names .exit)) (now (blocks .exit)) (now (indexes .exit)) (now (firsts .exit)) (now (widths .exit)) (now (values .exit))) ⌝ }
+    requires { ⌜ Begun (now src) ⌝ }
+    ensures { λ r. ⌜ CalledBy (upTo (greatest .0) eac3) (now (src .entry)) (room (now (names .entry)) (now (blocks .entry)) (now (indexes .entry)) (now (firsts .entry)) (now (widths .entry)) (now (values .entry))) r (room (now (names .exit)) (now (blocks .exit)) (now (indexes .exit)) (now (firsts .exit)) (now (widths .exit)) (now (values .exit))) ⌝ }
 {
     let table = annex();
     let mut cells: [u16; 1024] = [0; 1024];
@@ -237,12 +221,14 @@ fn synced(
         &mut baps,
         &mut memo,
         most,
+        greatest,
         cur,
     );
     answer_of(c, &cells)
 }
 
-// One frame, at the beginning of a slice: the frame, or one refusal, and its records in six lent slices, as many as the shortest of them has room for.
+// The full entry: one frame of any size, at the beginning of a slice: the frame, or one refusal, and its records in six lent slices, as many as the shortest of
+// them has room for.
 pub fn parse(
     src: &[u8],
     names: &mut [u8],
@@ -254,31 +240,46 @@ pub fn parse(
 ) -> Answer
     ensures { λ r. ⌜ Called (now (src .entry)) (room (now (names .entry)) (now (blocks .entry)) (now (indexes .entry)) (now (firsts .entry)) (now (widths .entry)) (now (values .entry))) r (room (now (names .exit)) (now (blocks .exit)) (now (indexes .exit)) (now (firsts .exit)) (now (widths .exit)) (now (values .exit))) ⌝ }
 {
-    if src.len() < 6 {
-        return refusal(halted(BitPlace(0), 0, 1));
+    let cur = begin(src, names, blocks, indexes, firsts, widths, values);
+    if cur.stopped {
+        return refusal(cur);
     }
-    let word = bits_at(src, BitPlace(0), 16);
-    if begins(src, word) {
-        return synced(src, names, blocks, indexes, firsts, widths, values);
-    }
-    let cur = keep(
+    begun(
+        src,
         names,
         blocks,
         indexes,
         firsts,
         widths,
         values,
-        0,
-        SYNCWORD,
-        -1,
-        -1,
-        BitPlace(0),
-        16,
-        word,
-        BitPlace(16),
-    );
-    if word == SYNC {
-        return refusal(stopped(cur, 6, BitPlace(45)));
+        ByteCount(FULL),
+    )
+}
+
+// The settop entry: one frame of at most 1,536 bytes; a longer one is refusal 46.
+pub fn parse_settop(
+    src: &[u8],
+    names: &mut [u8],
+    blocks: &mut [i8],
+    indexes: &mut [i16],
+    firsts: &mut [u16],
+    widths: &mut [u16],
+    values: &mut [u32],
+) -> Answer
+    ensures { λ r. ⌜ SettopCalled (now (src .entry)) (room (now (names .entry)) (now (blocks .entry)) (now (indexes .entry)) (now (firsts .entry)) (now (widths .entry)) (now (values .entry))) r (room (now (names .exit)) (now (blocks .exit)) (now (indexes .exit)) (now (firsts .exit)) (now (widths .exit)) (now (values .exit))) ⌝ }
+{
+    let cur = begin(src, names, blocks, indexes, firsts, widths, values);
+    if cur.stopped {
+        return refusal(cur);
     }
-    refusal(stopped(cur, 2, BitPlace(16)))
+    begun(
+        src,
+        names,
+        blocks,
+        indexes,
+        firsts,
+        widths,
+        values,
+        ByteCount(SETTOP),
+    )
 }

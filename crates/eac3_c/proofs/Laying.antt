@@ -2,10 +2,10 @@
 use mathlib.Core.Path.{_≡_, refl, sym, ap, ap₂, subst, _∙_}
 use mathlib.Core.Bool.{Bool, true, false, cond}
 use mathlib.Core.List.{List, _∷_}
-use Prim.Native.Nat.{ℕ, _+_, _*_}
+use Prim.Native.Nat.{ℕ, _+_, _-_, _*_}
 use native.Mathlib.Numerals.{add-one}
-use lib.Dec.{eqb}
-use lib.ListN.{getD, set, replicate}
+use lib.Dec.{ltb, eqb}
+use lib.ListN.{length, length-set, getD, set}
 use Rattle.reading.specs.Run.{Result, accepted, refused}
 use Rattle.reading.specs.Room.{Room, Out}
 use Rattle.cells.specs.Cells.{State}
@@ -14,8 +14,11 @@ use Rattle.answer.specs.declared.Frame.{Frame}
 use Rattle.answer.specs.declared.SlotBits.{SlotBits}
 use Rattle.answer.specs.declared.Verdict.the-variants.{Refused}
 use Rattle.eac3.specs.Called.{answered}
+use Rattle.search.specs.declared.Found.{Found}
+use Rattle.search.specs.Find.{noneNumber, noneFound, reading, countAfter, passed, tries, foundIn, Searched}
 use Rattle.mastering.specs.SetWord.{acceptedBy, answerWith, number, answerSet, WordSet}
-use Rattle.eac3_c.specs.Numbers.{written, laid, blockBits, bitsLaid, laidOf, frameNumbers, Bare}
+use Rattle.eac3_c.specs.Numbers.{written, laid, blockBits, bitsLaid, laidOf, frameNumbers}
+use Rattle.eac3_c.specs.Parts.{Bare, refusalLaid}
 use Rattle.answer.specs.Answer.{placeAt, nothing, answerBy, answerOf, numberOf, placeOf, countOf}
 
 pub written-none : (m : List ℕ) (k : ℕ) (vs : List ℕ) → m ≡ written m k vs 0
@@ -28,6 +31,9 @@ written-more m k vs x i v ex ev = rw (add-one i, ex, ev)
 
 pub written-all : (m : List ℕ) (k : ℕ) (vs x : List ℕ) (i n : ℕ) → x ≡ written m k vs i → i ≡ n → x ≡ written m k vs n
 written-all m k vs x i n ex ei = ex ∙ ap (written m k vs) ei
+
+pub three-set : (m : List ℕ) (a b c : ℕ) → length (set (set (set m 0 a) 1 b) 2 c) ≡ length m
+three-set m a b c = length-set (set (set m 0 a) 1 b) 2 c ∙ length-set (set m 0 a) 1 b ∙ length-set m 0 a
 
 -- the bits of the slots, block by block
 pub bits-none : (m : List ℕ) (ts : List SlotBits) → m ≡ bitsLaid m ts 0
@@ -49,14 +55,14 @@ also e es = ap₂ _∷_ e es
 pub laid-are : (m x y vs : List ℕ) (n p k : ℕ) (a : Answer) → y ≡ bitsLaid x (a .frame .«slot_bits») 6 → x ≡ laid m n p k vs → n ≡ numberOf a → p ≡ placeOf a → k ≡ countOf a → vs ≡ frameNumbers (a .frame) → y ≡ laidOf m a
 laid-are m x y vs n p k a d e f g h i = d ∙ rw e (rw f (rw g (rw h (rw i refl))))
 
--- those of a refusal: its frame's numbers are 0
-none-numbers : frameNumbers nothing ≡ replicate 31 0
-unfolding frameNumbers
-none-numbers = refl
+-- those of a refusal: the numbers of its frame and the bits of its slots are 0
+none-numbers : (m : List ℕ) (n p k : ℕ) → refusalLaid m n p k ≡ bitsLaid (laid m n p k (frameNumbers nothing)) (nothing .«slot_bits») 6
+unfolding refusalLaid laid bitsLaid written frameNumbers
+none-numbers m n p k = refl
 
-pub laid-none : (m x y : List ℕ) (n p k : ℕ) (a : Answer) → a .frame ≡ nothing → y ≡ bitsLaid x (nothing .«slot_bits») 6 → x ≡ laid m n p k (replicate 31 0) → n ≡ numberOf a → p ≡ placeOf a → k ≡ countOf a → y ≡ laidOf m a
-laid-none m x y n p k a e d f g h i =
-    laid-are m x y (replicate 31 0) n p k a (d ∙ ap (λ (f : Frame). bitsLaid x (f .«slot_bits») 6) (sym e)) f g h i (sym none-numbers ∙ ap frameNumbers (sym e))
+pub laid-none : (m y : List ℕ) (n p k : ℕ) (a : Answer) → a .frame ≡ nothing → y ≡ refusalLaid m n p k → n ≡ numberOf a → p ≡ placeOf a → k ≡ countOf a → y ≡ laidOf m a
+laid-none m y n p k a e d f g h =
+    d ∙ none-numbers m n p k ∙ rw f (rw g (rw h (ap (λ (x : Frame). bitsLaid (laid m (numberOf a) (placeOf a) (countOf a) (frameNumbers x)) (x .«slot_bits») 6) (sym e))))
 
 -- the answers of a reading, and of a word that is set, have no frame where they are refusals
 bare-by : (r : Result State) (p n : ℕ) → Bare (answerBy r p n)
@@ -82,3 +88,27 @@ bare-set s o i v =
 
 pub bare-word : {s : List ℕ} {m : Room} {i v : ℕ} {a : Answer} {s′ : List ℕ} {m′ : Room} → WordSet s m i v a s′ m′ → Bare a
 bare-word {s} {m} {i} {v} h = subst Bare (sym (h .answer)) (bare-set s (answered s m) i v)
+
+-- what a search finds is the answer of a reading, or has no frame
+bare-in : (s : List ℕ) (m : Room) (start most : ℕ) → Bare (foundIn s m start most .answer)
+unfolding foundIn
+bare-in s m start most = go (ltb (passed s m start (tries s m start most)) (tries s m start most))
+  where
+    go : (b : Bool)
+        → Bare
+        (cond b
+        (record { answer = answerOf (reading s m start (passed s m start (tries s m start most))); position = start + passed s m start (tries s m start most); tried = passed s m start (tries s m start most) + 1 })
+        (noneFound (noneNumber (length s - start) most) (countAfter s m start (tries s m start most)) (tries s m start most))
+        .answer)
+    go true = bare-answer (reading s m start (passed s m start (tries s m start most)))
+    go false = λ _. refl
+
+pub bare-found : {s : List ℕ} {m : Room} {start most : ℕ} {f : Found} {m′ : Room} → Searched s m start most f m′ → Bare (f .answer)
+bare-found {s} {m} {start} {most} h = subst (λ (f : Found). Bare (f .answer)) (sym (h .found)) (bare-in s m start most)
+
+-- with the position and the number tried
+pub found-laid : (before x : List ℕ) (f g : Found) → x ≡ laidOf before (f .answer) → f ≡ g
+    → set (set x 76 (f .position)) 77 (f .tried) ≡ set (set (laidOf before (g .answer)) 76 (g .position)) 77 (g .tried)
+found-laid before x f g ex e =
+    ap (λ (x : List ℕ). set (set x 76 (f .position)) 77 (f .tried)) ex
+    ∙ ap (λ (f : Found). set (set (laidOf before (f .answer)) 76 (f .position)) 77 (f .tried)) e

@@ -1,10 +1,12 @@
 // The entries for hosts outside: C functions over slices and numbers.
 ghost use mathlib.Core.Path.{_≡_};
-ghost use Prim.Native.Nat.{_≤_};
+ghost use Prim.Native.Nat.{_+_, _≤_};
+ghost use lib.ListN.{length};
 ghost use Rattle.reading.specs.Room.{room};
 ghost use Rattle.answer.specs.Answer.{numberOf};
-ghost use Rattle.eac3.specs.Called.{answered};
-ghost use Rattle.eac3_c.specs.Numbers.{bitOf, frameNumbers, written, laid, bitsLaid, laidOf, Bare, Given, WordGiven};
+ghost use Rattle.eac3.specs.Called.{answeredBy, answered, settop};
+ghost use Rattle.eac3_c.specs.Numbers.{bitOf, frameNumbers, written, laid, bitsLaid, laidOf, Given, WordGiven, FoundGiven};
+ghost use Rattle.eac3_c.specs.Parts.{Bare, refusalLaid};
 use answer::Answer;
 use answer::Frame;
 use answer::SlotBits;
@@ -12,6 +14,7 @@ use answer::count_of;
 use answer::number_of;
 use answer::place_of;
 use mastering::set_word;
+use search::find;
 
 fn wide(x: u16) -> u64
     ensures { λ r. ⌜ r ≡ x ⌝ }
@@ -67,7 +70,8 @@ pub fn numbers(f: Frame) -> [u16; 31]
 }
 
 // Writes three numbers and those of a frame.
-fn lay(out: &mut [u64; 76], number: u64, place: u64, count: u64, frame: [u16; 31])
+fn lay(out: &mut [u64], number: u64, place: u64, count: u64, frame: [u16; 31])
+    requires { ⌜ 34 ≤ length (now out) ⌝ }
     ensures { λ _. ⌜ now (out .exit) ≡ laid (now (out .entry)) number place count frame ⌝ }
 {
     out[0] = number;
@@ -81,8 +85,8 @@ fn lay(out: &mut [u64; 76], number: u64, place: u64, count: u64, frame: [u16; 31
 }
 
 // Writes seven numbers from a place on.
-fn lay_seven(out: &mut [u64; 76], at: usize, numbers: [u16; 7])
-    requires { ⌜ at ≤ 69 ⌝ }
+fn lay_seven(out: &mut [u64], at: usize, numbers: [u16; 7])
+    requires { ⌜ at + 7 ≤ length (now out) ⌝ }
     ensures { λ _. ⌜ now (out .exit) ≡ written (now (out .entry)) at numbers 7 ⌝ }
 {
     let mut i: usize = 0;
@@ -93,7 +97,8 @@ fn lay_seven(out: &mut [u64; 76], at: usize, numbers: [u16; 7])
 }
 
 // Writes the bits of the slots of six blocks.
-fn lay_bits(out: &mut [u64; 76], slots: [SlotBits; 6])
+fn lay_bits(out: &mut [u64], slots: [SlotBits; 6])
+    requires { ⌜ 76 ≤ length (now out) ⌝ }
     ensures { λ _. ⌜ now (out .exit) ≡ bitsLaid (now (out .entry)) slots 6 ⌝ }
 {
     let mut block: usize = 0;
@@ -105,9 +110,24 @@ fn lay_bits(out: &mut [u64; 76], slots: [SlotBits; 6])
     }
 }
 
+// Writes the three numbers of a refusal, and zeros for the frame that there is not.
+fn lay_refusal(out: &mut [u64], number: u64, place: u64, count: u64)
+    requires { ⌜ 76 ≤ length (now out) ⌝ }
+    ensures { λ _. ⌜ now (out .exit) ≡ refusalLaid (now (out .entry)) number place count ⌝ }
+{
+    out[0] = number;
+    out[1] = place;
+    out[2] = count;
+    let mut i: usize = 0;
+    while i < 73 {
+        out[i + 3] = 0;
+        i += 1;
+    }
+}
+
 // Writes an answer, and gives its number. A refusal has no frame, whose numbers are not looked at.
-fn tell(out: &mut [u64; 76], a: Answer) -> u8
-    requires { ⌜ Bare a ⌝ }
+fn tell(out: &mut [u64], a: Answer) -> u8
+    requires { ⌜ Bare a × (76 ≤ length (now out)) ⌝ }
     ensures { λ r. ⌜ (r ≡ numberOf a) × (now (out .exit) ≡ laidOf (now (out .entry)) a) ⌝ }
 {
     let v = a.verdict;
@@ -121,8 +141,7 @@ fn tell(out: &mut [u64; 76], a: Answer) -> u8
         lay_bits(out, slots);
         return number;
     }
-    lay(out, number as u64, place as u64, count as u64, [0; 31]);
-    lay_bits(out, [SlotBits { bits: [0; 7] }; 6]);
+    lay_refusal(out, number as u64, place as u64, count as u64);
     number
 }
 
@@ -142,6 +161,25 @@ pub extern "C" fn eac3_parse(
         (room (now (names .exit)) (now (blocks .exit)) (now (indexes .exit)) (now (firsts .exit)) (now (widths .exit)) (now (values .exit))) (now (answer .entry)) (now (answer .exit)) ⌝ }
 {
     let a = eac3::parse(src, names, blocks, indexes, firsts, widths, values);
+    tell(answer, a)
+}
+
+// The same for frames of at most 1,536 bytes; a longer one is refusal 46.
+#[no_mangle]
+pub extern "C" fn eac3_parse_settop(
+    src: &[u8],
+    names: &mut [u8],
+    blocks: &mut [i8],
+    indexes: &mut [i16],
+    firsts: &mut [u16],
+    widths: &mut [u16],
+    values: &mut [u32],
+    answer: &mut [u64; 76],
+) -> u8
+    ensures { λ r. ⌜ Given (answeredBy settop (now (src .entry)) (room (now (names .entry)) (now (blocks .entry)) (now (indexes .entry)) (now (firsts .entry)) (now (widths .entry)) (now (values .entry)))) r
+        (room (now (names .exit)) (now (blocks .exit)) (now (indexes .exit)) (now (firsts .exit)) (now (widths .exit)) (now (values .exit))) (now (answer .entry)) (now (answer .exit)) ⌝ }
+{
+    let a = eac3::parse_settop(src, names, blocks, indexes, firsts, widths, values);
     tell(answer, a)
 }
 
@@ -175,4 +213,39 @@ pub extern "C" fn eac3_set_word(
         value,
     );
     tell(answer, a)
+}
+
+// The first position of `capture`, from `start` on and at most `most` of them, that holds a frame. Gives 0, or the number
+// of the refusal; the answer says more, with the position and the number tried at its end.
+#[no_mangle]
+pub extern "C" fn eac3_find(
+    capture: &[u8],
+    names: &mut [u8],
+    blocks: &mut [i8],
+    indexes: &mut [i16],
+    firsts: &mut [u16],
+    widths: &mut [u16],
+    values: &mut [u32],
+    start: usize,
+    most: usize,
+    answer: &mut [u64; 78],
+) -> u8
+    ensures { λ r. ⌜ FoundGiven (now (capture .entry)) (room (now (names .entry)) (now (blocks .entry)) (now (indexes .entry)) (now (firsts .entry)) (now (widths .entry)) (now (values .entry))) start most r
+        (room (now (names .exit)) (now (blocks .exit)) (now (indexes .exit)) (now (firsts .exit)) (now (widths .exit)) (now (values .exit))) (now (answer .entry)) (now (answer .exit)) ⌝ }
+{
+    let found = find(
+        capture,
+        names,
+        blocks,
+        indexes,
+        firsts,
+        widths,
+        values,
+        start,
+        most,
+    );
+    let number = tell(answer, found.answer);
+    answer[76] = found.position as u64;
+    answer[77] = found.tried as u64;
+    number
 }

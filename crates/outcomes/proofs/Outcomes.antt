@@ -2,11 +2,12 @@
 use mathlib.Core.Path.{_≡_, refl, sym, subst}
 use mathlib.Core.Bool.{Bool, true, false, cond, _||_, _&&_, true≢false}
 use mathlib.Core.List.{List, [], _∷_}
-use Prim.Native.Nat.{ℕ, zero, suc, _+_, _-_, _*_, _/_, _%_, _^_, max, _≤_}
+use Prim.Native.Nat.{ℕ, zero, suc, _+_, _-_, _*_, _/_, _%_, _^_, max, _≤_, _<_}
 use native.Mathlib.Omega.{arith}
 use lib.Dec.{leb, ltb, eqb, leb→le}
 use lib.ListN.{length, getD}
 use Rattle.bits.specs.Bits.{bitsAt}
+use Rattle.bits.proofs.BitLaws.{bitsAt-lt}
 use Rattle.reading.specs.Tree.{Part, Skim, stop, fail, at, take, _>>-_, Tree, done, refuse, ahead, here, read, span as spanned, scan, _>>=_}
 use Rattle.reading.specs.Run.{Entry, Result, accepted, refused, Outcome, out, cons, andThen, after, skim, run}
 use Rattle.reading.specs.Frame.{headerBy, seen, headed, auxdataeAt, ending, tail, finish, framed, sized, parse}
@@ -31,7 +32,6 @@ use Rattle.allocation.specs.declared.Codes.{Codes}
 use Rattle.allocation.specs.declared.Parameters.{Parameters}
 use Rattle.allocation.specs.declared.Parameters.the-variants.{NeverSent, Sent}
 use Rattle.cells.specs.Cells.{State, stored, sumOf}
-use Rattle.cells.specs.Names.{FRMSIZ}
 use Rattle.derivations.specs.Acted.{Acted, acted}
 use Rattle.derivations.specs.Allocating.{allocateIn, allocStateOf}
 use Rattle.sideinfo.specs.Blocks.{unknownHere, endmantsBy}
@@ -42,9 +42,10 @@ use Rattle.rows.specs.Syntax.{Item, Block, element, elements, span, mantissas, 
 use Rattle.annex.specs.Syncinfo.{syncinfo, bsi-size}
 use Rattle.annex.specs.Annex.{body}
 use Rattle.annex.specs.Frame.{start, tailNames, bytesOf, bsidAhead, eac3}
-use Rattle.outcomes.specs.Outcomes.{refusals, Numbered, spanNames, Keeps, farthest, AllKeep}
-use Rattle.bounds.proofs.Bounded.{pages, header-within}
-use Rattle.bounds.proofs.Bounds.{both, frmsiz-most}
+use Rattle.annex.proofs.Header.{tells}
+use Rattle.outcomes.specs.Outcomes.{refusals, Numbered, spanNames, Keeps, AllKeep, AtMost, KeepBySize}
+use Rattle.bounds.proofs.Bounded.{pages}
+use Rattle.bounds.proofs.Bounds.{both}
 use Rattle.bounds.proofs.Reaches.{skim-reaches}
 
 -- inside a span, whatever the bits
@@ -459,23 +460,30 @@ module _ (s : List ℕ) where
       k : Keeps 48 (run (meaning syncinfo start) s 0 48)
       k = keeps-run s 48 (meaning syncinfo start) (refuses-block syncinfo rejects-opening start) 0
 
-  keeps-sized : (h : State) (p : ℕ) → p ≤ 48 → 8 * bytesOf h ≤ farthest → Keeps farthest (sized eac3 s h p)
+  keeps-sized : (m : ℕ) (h : State) (p : ℕ) → p ≤ m → 8 * bytesOf h ≤ m → Keeps m (sized eac3 s h p)
   unfolding sized framed finish eac3
-  keeps-sized h p i j =
+  keeps-sized m h p i j =
       let l = 8 * bytesOf h in
-      test (Keeps farthest) (leb (bytesOf h) (length s))
+      test (Keeps m) (leb (bytesOf h) (length s))
       (λ _. let k : Keeps (max p l) (run (meaning body h) s p l) = keeps-run s l (meaning body h) (refuses-block body rejects-body h) p in
-      keeps-after farthest (run (meaning body h) s p l) (finish tailNames s l) (keeps-more (max p l) farthest (omega arith) k)
+      keeps-after m (run (meaning body h) s p l) (finish tailNames s l) (keeps-more (max p l) m (omega arith) k)
       (λ a _. let r = k .place in
-      keeps-more (max (run (meaning body h) s p l .place) l) farthest (omega arith) (keeps-tail s l (bitsAt s (l - 18) 1) a (run (meaning body h) s p l .place))))
-      (λ _. keeps-none farthest 4 p (short .1) (omega arith))
+      keeps-more (max (run (meaning body h) s p l .place) l) m (omega arith) (keeps-tail s l (bitsAt s (l - 18) 1) a (run (meaning body h) s p l .place))))
+      (λ _. keeps-none m 4 p (short .1) (omega arith))
+
+pub keep-by-size : KeepBySize
+unfolding parse eac3
+keep-by-size s n six i =
+    test (Keeps (8 * n)) (leb 6 (length s))
+    (λ _. let k = keeps-headed s in
+    keeps-after (8 * n) (headed eac3 s) (sized eac3 s) (keeps-more 48 (8 * n) (omega arith) k)
+    (λ h e. keeps-sized s (8 * n) h (headed eac3 s .place) (omega (arith, k .place)) (let t = i h e in let z : 8 * bytesOf h ≤ 8 * n = omega arith in z)))
+    (λ _. keeps-none (8 * n) 1 0 (short .0) (omega arith))
+
+-- frmsiz announces no more
+pub at-most-4096 : (s : List ℕ) → AtMost 4096 s
+unfolding eac3
+at-most-4096 s h e = let z : bitsAt s 21 11 < 2048 = bitsAt-lt s 21 11 in let t = tells s h e in let y : bytesOf h ≤ 4096 = omega arith in y
 
 pub all-keep : AllKeep
-unfolding parse eac3
-all-keep s =
-    test (Keeps farthest) (leb 6 (length s))
-    (λ _. let k = keeps-headed s in
-    keeps-after farthest (headed eac3 s) (sized eac3 s) (keeps-more 48 farthest (omega arith) k)
-    (λ h e. keeps-sized s h (headed eac3 s .place) (k .place)
-    (let w = header-within s h e .below FRMSIZ in let z : 8 * bytesOf h ≤ farthest = omega (arith, frmsiz-most) in z)))
-    (λ _. keeps-none farthest 1 0 (short .0) (omega arith))
+all-keep s = keep-by-size s 4096 (omega arith) (at-most-4096 s)

@@ -1,4 +1,4 @@
--- 32,782 records always suffice. A frame has at most 32,768 bits. Of its records 16 may have width 0, as its syntax counts them,
+-- 32,782 records always suffice. A frame of n bytes has 8 n bits, and n is at most 4,096. Of its records 16 may have width 0, as its syntax counts them,
 -- and syncword has 15 bits more than one. Assumes nothing.
 use mathlib.Core.Path.{_≡_, refl, ap, sym, _∙_, subst}
 use mathlib.Core.Bool.{Bool, true, false, true≢false}
@@ -17,7 +17,7 @@ use Rattle.reading.proofs.Runs.{after-cons}
 use Rattle.reading.proofs.Heads.{barrier, barred}
 use Rattle.names.specs.Names.{syncword}
 use Rattle.cells.specs.Cells.{State, cellOf, stored, partOf}
-use Rattle.cells.specs.Names.{FRMSIZ, SYNCWORD}
+use Rattle.cells.specs.Names.{SYNCWORD}
 use Rattle.rows.specs.Syntax.{Block, end, _⨾_, _⧺_, among, item, meaning, none}
 use Rattle.annex.specs.Syncinfo.{syncinfo, bsi-size}
 use Rattle.annex.specs.Annex.{header, body}
@@ -25,13 +25,12 @@ use Rattle.annex.specs.Frame.{start, tailNames, bytesOf, eac3}
 use Rattle.annex.proofs.Header.{header-of, headed-good}
 use Rattle.bounds.specs.Along.{Along}
 use Rattle.bounds.specs.Bounds.{bounds, mostIn, most, Bounded}
-use Rattle.outcomes.specs.Outcomes.{refusals, Numbered}
+use Rattle.outcomes.specs.Outcomes.{refusals, Numbered, AtMost}
 use Rattle.outcomes.specs.Suffices.{enough, Suffices}
-use Rattle.bounds.proofs.Bounds.{frmsiz-most}
-use Rattle.bounds.proofs.Bounded.{pages, opening-along, header-along, header-within, body-bounded}
+use Rattle.bounds.proofs.Bounded.{pages, opening-along, header-along, body-bounded}
 use Rattle.bounds.proofs.Reaches.{run-reaches}
 use Rattle.outcomes.proofs.Counts.{Few, zeros, few-none, few-after, few-read, few-span, few-done, few-refuse, few-ahead, few-here, few-bind, few-block}
-use Rattle.outcomes.proofs.Outcomes.{all-keep}
+use Rattle.outcomes.proofs.Outcomes.{at-most-4096, all-keep}
 
 -- the tail makes one record that may have width 0: auxbits
 module _ {A : Type 0} (N : TailNames) (b : List ℕ) (l : ℕ) where
@@ -114,42 +113,43 @@ module _ (s : List ℕ) where
       (few-bind s 48 {z = 0} {y = 0} (meaning syncinfo start) (barrier eac3) (few-block s 48 syncinfo start 0 [] (opening-along s))
       (λ h e. few-here s 48 _ _ 0 (few-ahead s 48 6 _ _ 0)))
 
-  few-refused : eac3 .look .good (seen eac3 s) ≡ false → length (after (headed eac3 s) (sized eac3 s) .records) ≤ enough
-  unfolding after
-  few-refused b = go (headed eac3 s .result) refl
-    where
-      go : (r : Result State) → headed eac3 s .result ≡ r → length (andThen r (headed eac3 s .place) (headed eac3 s .records) (sized eac3 s) .records) ≤ enough
-      go (accepted h) e = absurd (true≢false (sym (headed-good s h e) ∙ b))
-      go (refused n) e = omega (arith, few-barred b .few)
+  module _ (n : ℕ) (six : 6 ≤ n) (size : AtMost n s) where
+    few-refused : eac3 .look .good (seen eac3 s) ≡ false → length (after (headed eac3 s) (sized eac3 s) .records) ≤ 8 * n + 1
+    unfolding after
+    few-refused b = go (headed eac3 s .result) refl
+      where
+        go : (r : Result State) → headed eac3 s .result ≡ r → length (andThen r (headed eac3 s .place) (headed eac3 s .records) (sized eac3 s) .records) ≤ 8 * n + 1
+        go (accepted h) e = absurd (true≢false (sym (headed-good s h e) ∙ b))
+        go (refused k) e = omega (arith, few-barred b .few)
 
-  -- with a good one, all but syncword
-  few-outcome : eac3 .look .good (seen eac3 s) ≡ true → length (after rested (sized eac3 s) .records) ≤ 32768
-  unfolding after
-  few-outcome b = go (rested .result) refl
-    where
-      go : (r : Result State) → rested .result ≡ r → length (andThen r (rested .place) (rested .records) (sized eac3 s) .records) ≤ 32768
-      go (accepted h) e =
-          let i : headed eac3 s ≡ cons sync rested = ap (λ t. run t s 0 48) (header-of (seen eac3 s) b) ∙ header-is in
-          let d : headed eac3 s .result ≡ accepted h = ap (λ (o : Outcome State). o .result) i ∙ e in
-          let a : Along s (8 * bytesOf h) Bounded body h (rested .place) (sync ∷ rested .records) =
-          subst (λ (o : Outcome State). Along s (8 * bytesOf h) Bounded body h (o .place) (o .records)) i (body-bounded s h d) in
-          let f = few-sized s h (rested .place) (sync ∷ rested .records) a .few in
-          let w : cellOf (h .cells) FRMSIZ ≤ 2047 = omega (arith, header-within s h d .below FRMSIZ, frmsiz-most) in
-          rw (length-append (rested .records) (sized eac3 s h (rested .place) .records)) (omega (arith, few-rested .few))
-      go (refused n) e = omega (arith, few-rested .few)
+    -- with a good one, all but syncword
+    few-outcome : eac3 .look .good (seen eac3 s) ≡ true → length (after rested (sized eac3 s) .records) ≤ 8 * n
+    unfolding after
+    few-outcome b = go (rested .result) refl
+      where
+        go : (r : Result State) → rested .result ≡ r → length (andThen r (rested .place) (rested .records) (sized eac3 s) .records) ≤ 8 * n
+        go (accepted h) e =
+            let i : headed eac3 s ≡ cons sync rested = ap (λ t. run t s 0 48) (header-of (seen eac3 s) b) ∙ header-is in
+            let d : headed eac3 s .result ≡ accepted h = ap (λ (o : Outcome State). o .result) i ∙ e in
+            let a : Along s (8 * bytesOf h) Bounded body h (rested .place) (sync ∷ rested .records) =
+            subst (λ (o : Outcome State). Along s (8 * bytesOf h) Bounded body h (o .place) (o .records)) i (body-bounded s h d) in
+            let f = few-sized s h (rested .place) (sync ∷ rested .records) a .few in
+            let w : bytesOf h ≤ n = size h d in
+            rw (length-append (rested .records) (sized eac3 s h (rested .place) .records)) (omega (arith, few-rested .few))
+        go (refused k) e = omega (arith, few-rested .few)
 
-  at-most : length (parse eac3 s .records) ≤ enough
-  unfolding parse eac3
-  at-most =
-      test (λ o. length (o .records) ≤ enough) (leb 6 (length s))
-      (λ _. go (eac3 .look .good (seen eac3 s)) refl)
-      (λ _. omega arith)
-    where
-      go : (b : Bool) → eac3 .look .good (seen eac3 s) ≡ b → length (after (headed eac3 s) (sized eac3 s) .records) ≤ enough
-      go true b =
-          rw (header-of (seen eac3 s) b)
-          (rw header-is (rw (← (after-cons sync rested (sized eac3 s) (after rested (sized eac3 s)) refl)) (omega (arith, few-outcome b))))
-      go false b = few-refused b
+    pub few-records : length (parse eac3 s .records) ≤ 8 * n + 1
+    unfolding parse eac3
+    few-records =
+        test (λ o. length (o .records) ≤ 8 * n + 1) (leb 6 (length s))
+        (λ _. go (eac3 .look .good (seen eac3 s)) refl)
+        (λ _. omega arith)
+      where
+        go : (b : Bool) → eac3 .look .good (seen eac3 s) ≡ b → length (after (headed eac3 s) (sized eac3 s) .records) ≤ 8 * n + 1
+        go true b =
+            rw (header-of (seen eac3 s) b)
+            (rw header-is (rw (← (after-cons sync rested (sized eac3 s) (after rested (sized eac3 s)) refl)) (omega (arith, few-outcome b))))
+        go false b = few-refused b
 
 -- where there is room for all records nothing is cut
 pub cut-none : {A : Type 0} (n : ℕ) (o : Outcome A) → length (o .records) ≤ n → cut n o ≡ o
@@ -168,7 +168,8 @@ not-33 e = true≢false (sym e)
 
 pub enough-room : (s : List ℕ) → Suffices s
 enough-room s = record {
-  records = at-most s;
+  by-size = λ n six i. omega (arith, few-records s n six i);
+  records = at-most;
   numbered = all-keep s .numbered;
   whole = λ n h. whole n h;
   never = λ m h e.
@@ -176,5 +177,8 @@ enough-room s = record {
       not-33 (subst Numbered g (all-keep s .numbered));
 }
   where
+    at-most : length (parse eac3 s .records) ≤ enough
+    at-most = omega (arith, few-records s 4096 (omega arith) (at-most-4096 s))
+
     whole : (n : ℕ) → enough ≤ n → cut n (parse eac3 s) ≡ parse eac3 s
-    whole n h = cut-none n (parse eac3 s) (omega (arith, at-most s))
+    whole n h = cut-none n (parse eac3 s) (omega (arith, at-most))

@@ -2,13 +2,14 @@
 use mathlib.Core.Path.{_≡_}
 use mathlib.Core.Bool.{true}
 use mathlib.Core.List.{List, [], _∷_}
-use Prim.Native.Nat.{ℕ, _≤_}
+use Prim.Native.Nat.{ℕ, _*_, _≤_}
 use Rattle.names.specs.Names.{addbsi, auxbits, blkstrtinfo, mantissas, mixdata, skipfld}
 use Rattle.reading.specs.Run.{Entry, Result, accepted, refused, Outcome}
 use Rattle.reading.specs.Records.{All}
-use Rattle.reading.specs.Frame.{parse}
+use Rattle.reading.specs.Frame.{headed, parse}
 use Rattle.rows.specs.Syntax.{among}
-use Rattle.annex.specs.Frame.{eac3}
+use Rattle.cells.specs.Cells.{State}
+use Rattle.annex.specs.Frame.{bytesOf, eac3}
 
 -- the numbers of the scope, but for 33, which only a room gives
 unfoldable pub refusals : List ℕ
@@ -36,3 +37,10 @@ farthest = 32768
 
 abbrev pub AllKeep : Type 0
 AllKeep = (s : List ℕ) → Keeps farthest (parse eac3 s)
+
+-- a buffer whose header, if it is accepted, gives at most n bytes
+abbrev pub AtMost : ℕ → List ℕ → Type 0
+AtMost n s = (h : State) → headed eac3 s .result ≡ accepted h → bytesOf h ≤ n
+
+abbrev pub KeepBySize : Type 0
+KeepBySize = (s : List ℕ) (n : ℕ) → 6 ≤ n → AtMost n s → Keeps (8 * n) (parse eac3 s)

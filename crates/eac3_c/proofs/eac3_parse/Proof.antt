@@ -1,15 +1,17 @@
 -- By the callees.
 use mathlib.Core.Path.{ap, sym, subst, _∙_}
+use native.Mathlib.Omega.{arith}
 use Rattle.answer.specs.Answer.{numberOf}
 use Rattle.answer.specs.declared.Answer.{Answer}
-use Rattle.eac3_c.specs.Numbers.{laidOf, Bare}
+use Rattle.eac3_c.specs.Numbers.{laidOf}
+use Rattle.eac3_c.specs.Parts.{Bare}
 use borrow.Author.Needs.{needs}
 use Rattle.eac3_c.proofs.Laying.{bare-answer}
 use Rattle.eac3_c.proofs.eac3_parse.Statement.{statement}
 use Rattle.eac3_c.proofs.eac3_parse.Tie as tie
 
 tell-requires : tie.Need-tell-requires
-tell-requires c κs = subst Bare (sym (c .before .before .before .before .before .before .before .before .before .before .before .parse .ensures .answer)) (bare-answer _)
+tell-requires c κs = (subst Bare (sym (c .before .before .before .before .before .before .before .before .before .before .before .parse .ensures .answer)) (bare-answer _), omega (arith, c .tell-arg .given .0 .1))
 
 returns : tie.Need-returns
 returns c = record {

@@ -1,5 +1,6 @@
 -- By the callees.
 use mathlib.Core.Path.{ap, _∙_}
+use native.Mathlib.Omega.{arith}
 use Rattle.answer.specs.Answer.{numberOf}
 use Rattle.answer.specs.declared.Answer.{Answer}
 use Rattle.eac3_c.specs.Numbers.{laidOf}
@@ -9,7 +10,7 @@ use Rattle.eac3_c.proofs.eac3_set_word.Statement.{statement}
 use Rattle.eac3_c.proofs.eac3_set_word.Tie as tie
 
 tell-requires : tie.Need-tell-requires
-tell-requires c κs = bare-word (c .before .before .before .before .before .before .before .before .before .before .before .before .before .set-word .ensures)
+tell-requires c κs = (bare-word (c .before .before .before .before .before .before .before .before .before .before .before .before .before .set-word .ensures), omega (arith, c .tell-arg .given .0 .1))
 
 returns : tie.Need-returns
 returns c = record {

@@ -1,9 +1,9 @@
 use mathlib.Core.Path.{refl}
 use borrow.Author.Needs.{needs}
 use borrow.Author.Tests.{ne-eqb}
-use Rattle.eac3.proofs.Parts.{high-bsid, low-bsid}
-use Rattle.eac3.proofs.begins.Statement.{statement}
-use Rattle.eac3.proofs.begins.Tie as tie
+use Rattle.opening.proofs.Openings.{high-bsid, low-bsid}
+use Rattle.opening.proofs.begins.Statement.{statement}
+use Rattle.opening.proofs.begins.Tie as tie
 
 returns : tie.Need-returns
 returns c = high-bsid _ _ _ (c .before .before .bits-at .ensures) (c .before .if1 .taken) (c .if2 .taken)

@@ -1,7 +1,7 @@
 use mathlib.Core.Path.{refl}
 use borrow.Author.Needs.{needs}
-use Rattle.eac3.proofs.stopped.Statement.{statement}
-use Rattle.eac3.proofs.stopped.Tie as tie
+use Rattle.opening.proofs.stopped.Statement.{statement}
+use Rattle.opening.proofs.stopped.Tie as tie
 
 returns-2 : tie.Need-returns-2
 returns-2 c = rw (c .halted .ensures, c .before .if1 .left) refl

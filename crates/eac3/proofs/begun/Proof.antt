@@ -6,12 +6,12 @@ use Rattle.walk.proofs.Walks.{turned-once}
 use Rattle.annex.specs.Annex.{header}
 use Rattle.annex.specs.Frame.{start}
 use Rattle.eac3.proofs.Parts.{right-start, kept-fills, small-size, begins-good, whole-answer}
-use Rattle.eac3.proofs.synced.Statement.{statement}
-use Rattle.eac3.proofs.synced.Tie as tie
+use Rattle.eac3.proofs.begun.Statement.{statement}
+use Rattle.eac3.proofs.begun.Tie as tie
 
 each-requires : tie.Need-each-requires
 unfolding start
-each-requires c κs = record { what = header; stands = c .before .before .before .before .before .before .before .before .before .before .before .before .annex .ensures .headed; table = c .before .before .before .before .before .before .before .before .before .before .before .before .annex .ensures .table; within = omega (arith, c .before .before .before .before .before .before .before .before .before .before .before .before .before .before .before .before .before .before .pre .0); right = right-start; fills = least-fills _ _ (c .before .before .before .before .before .before .before .before .before .before .before .least .ensures) }
+each-requires c κs = record { what = header; stands = c .before .before .before .before .before .before .before .before .before .before .before .before .annex .ensures .headed; table = c .before .before .before .before .before .before .before .before .before .before .before .before .annex .ensures .table; within = omega (arith, c .before .before .before .before .before .before .before .before .before .before .before .before .before .before .before .before .before .before .pre .long); right = right-start; fills = least-fills _ _ (c .before .before .before .before .before .before .before .before .before .before .before .least .ensures) }
 
 framed-requires : tie.Need-framed-requires
 unfolding start
@@ -37,9 +37,9 @@ same-length-6 c = c .before .before .before .before .before .before .before .bef
 
 returns : tie.Need-returns
 unfolding start
-returns c = whole-answer _ _ (c .before .before .before .before .before .before .before .before .before .before .before .before .framed .result) _ _ _ (omega (arith, c .before .before .before .before .before .before .before .before .before .before .before .before .before .before .before .before .before .before .before .before .before .before .before .before .before .before .before .before .before .before .before .before .before .before .before .before .before .before .before .before .before .before .before .before .before .before .before .before .before .before .before .before .before .pre .0)) (c .before .before .before .before .before .before .before .before .before .before .before .before .framed .ensures .is ∙ begins-good _ _ (c .before .before .before .before .before .before .before .before .before .before .before .before .before .before .before .before .before .before .before .before .before .before .before .before .before .before .before .before .before .before .before .before .before .before .each .result) _ _ (turned-once (c .before .before .before .before .before .before .before .before .before .before .before .before .before .before .before .before .before .before .before .before .before .before .before .before .before .before .before .before .before .before .before .before .before .before .each .ensures) header (c .before .before .before .before .before .before .before .before .before .before .before .before .before .before .before .before .before .before .before .before .before .before .before .before .before .before .before .before .before .before .before .before .before .before .before .before .before .before .before .before .before .before .before .before .before .before .before .annex .ensures .headed)) (c .before .before .before .before .before .before .before .before .before .before .before .before .before .before .before .before .before .before .before .before .before .before .before .before .before .before .before .before .before .before .before .before .before .before .before .before .before .before .before .before .before .before .before .before .before .before .before .before .before .before .before .before .before .pre .1)) (c .answer-of .ensures)
+returns c = whole-answer _ _ _ (c .before .before .before .before .before .before .before .before .before .before .before .before .framed .result) _ _ _ (omega (arith, c .before .before .before .before .before .before .before .before .before .before .before .before .before .before .before .before .before .before .before .before .before .before .before .before .before .before .before .before .before .before .before .before .before .before .before .before .before .before .before .before .before .before .before .before .before .before .before .before .before .before .before .before .before .pre .long)) (c .before .before .before .before .before .before .before .before .before .before .before .before .framed .ensures .is ∙ begins-good _ _ (c .before .before .before .before .before .before .before .before .before .before .before .before .before .before .before .before .before .before .before .before .before .before .before .before .before .before .before .before .before .before .before .before .before .before .each .result) _ _ (turned-once (c .before .before .before .before .before .before .before .before .before .before .before .before .before .before .before .before .before .before .before .before .before .before .before .before .before .before .before .before .before .before .before .before .before .before .each .ensures) header (c .before .before .before .before .before .before .before .before .before .before .before .before .before .before .before .before .before .before .before .before .before .before .before .before .before .before .before .before .before .before .before .before .before .before .before .before .before .before .before .before .before .before .before .before .before .before .before .annex .ensures .headed)) _ (c .before .before .before .before .before .before .before .before .before .before .before .before .before .before .before .before .before .before .before .before .before .before .before .before .before .before .before .before .before .before .before .before .before .before .before .before .before .before .before .before .before .before .before .before .before .before .before .before .before .before .before .before .before .pre .good)) (c .answer-of .ensures)
 
-pub synced-spec : {M : Type 1} → statement M
-synced-spec =
+pub begun-spec : {M : Type 1} → statement M
+begun-spec =
     tie.close (tie.spec (λ c κs. search needs) (λ c κs. search needs) (λ c. search needs) each-requires framed-requires
     (λ c κs. search needs) same-length same-length-2 same-length-3 same-length-4 same-length-5 same-length-6 returns)
