@@ -96,10 +96,11 @@ impl List {
         names.chain(features).chain(pointers).collect()
     }
 
-    /// Adds a slice, unless its kind of error is another since bsid is looked at first.
+    /// Adds a slice, unless its kind of error is another since bsid is looked at first, or the silence rule decides.
     fn add(&mut self, src: &[u8]) -> bool {
-        let a = read(src, usize::MAX, &mut self.records, &mut self.s, &mut Seen::default());
-        if kind(a[0]) != verdict(&reference::eac3::parse(src)) {
+        let mut seen = Seen::default();
+        let a = read(src, usize::MAX, &mut self.records, &mut self.s, &mut seen);
+        if kind(a[0]) != verdict(&reference::eac3::parse(src)) || seen.decided() > 0 {
             return false;
         }
         let mut c = (src.len() as u16).to_be_bytes().to_vec();

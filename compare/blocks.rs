@@ -200,12 +200,12 @@ fn allocate(r: &mut Random) -> Option<u8> {
             blocks::ExpSet { exp: (0..256).map(|k| i16::from(exps[256 * s + k])).collect(), start, end }
         })
         .collect();
-    let asked: Vec<usize> = (0..7)
-        .filter(|&s| (match s { 5 => cplinu, 6 => lfeon, _ => s < nfchans as usize }) && !(ahtinu[s] && ahtread[s]))
-        .collect();
-    let req: Vec<blocks::SlotAlloc> = asked
-        .iter()
-        .map(|&s| blocks::SlotAlloc { slot: s, exps: &sets[s], start: sets[s].start, end: sets[s].end, high_efficiency: ahtinu[s] })
+    // The Rust is asked for every slot in use, so that its silence rule looks at them all; the slots that were read before are
+    // then left out.
+    let used = (0..7).filter(|&s| match s { 5 => cplinu, 6 => lfeon, _ => s < nfchans as usize });
+    let asked: Vec<usize> = used.clone().filter(|&s| !(ahtinu[s] && ahtread[s])).collect();
+    let req: Vec<blocks::SlotAlloc> = used
+        .map(|s| blocks::SlotAlloc { slot: s, exps: &sets[s], start: sets[s].start, end: sets[s].end, high_efficiency: ahtinu[s] })
         .collect();
     let theirs = blocks::allocate_block(&st, fscod as usize, &req);
     let (exps_before, baps_before) = (exps, baps);

@@ -1,9 +1,10 @@
 //! One input for both: the unchanged Rust and our reader, each held to the other, and to the numbered walk where the Rust
-//! gives nothing. What was met is counted. Where bsid is not E-AC-3's our reader is held to the numbered walk alone: it looks at
-//! bsid straight after the sync word, and the Rust at its record (docs/DIFFERENCES.md).
+//! gives nothing. What was met is counted. Our reader is held to the numbered walk alone where bsid is not E-AC-3's, since it
+//! looks at bsid straight after the sync word, and the Rust at its record; and where the silence rule decides, since the Rust
+//! looks at the slots that are asked for alone (docs/DIFFERENCES.md).
 use crate::features::{features, FEATURES};
 use crate::names::{NAMES, ROLES};
-use crate::numbered::{bits, read, Answer, Record, Seen, State};
+use crate::numbered::{bits, read, read_by_request, Answer, Record, Seen, State};
 use crate::theirs::{answer_of, kind, told, verdict};
 use reference::error::Result;
 use reference::frame::Frame;
@@ -99,6 +100,9 @@ pub struct Met {
     /// Of those with another bsid: the Rust's numbers, and rooms of 1 to 8.
     pub others: [u64; 64],
     pub small_rooms: u64,
+    /// Decided by the silence rule: all; with enough room, and of these the accepted, and those with another answer by the
+    /// Rust's rule.
+    pub decided: [u64; 4],
 }
 
 /// What both are compared with and in.
@@ -112,16 +116,16 @@ pub struct Both {
 
 impl Both {
     pub fn new() -> Both {
-        let met = Met { inputs: 0, accepted: 0, numbers: [0; 64], names: [0; 202], features: [0; FEATURES.len()], seen: Seen::default(), others: [0; 64], small_rooms: 0 };
+        let met = Met { inputs: 0, accepted: 0, numbers: [0; 64], names: [0; 202], features: [0; FEATURES.len()], seen: Seen::default(), others: [0; 64], small_rooms: 0, decided: [0; 4] };
         Both { rooms: Rooms::new(), records: Vec::new(), s: State::new(), met, turn: 0 }
     }
 
     /// A slice with enough room and `more` entries besides. Gives the Rust's answer, or what differs. The records are left
     /// in `records`.
     pub fn whole(&mut self, src: &[u8], more: [usize; 6]) -> std::result::Result<Result<Frame>, String> {
-        let silent = self.met.seen.silent;
+        let (silent, decided) = (self.met.seen.silent, self.met.seen.decided());
         let walked = read(src, usize::MAX, &mut self.records, &mut self.s, &mut self.met.seen);
-        let silent = self.met.seen.silent - silent;
+        let (silent, decided) = (self.met.seen.silent - silent, self.met.seen.decided() > decided);
         self.met.inputs += 1;
         self.met.numbers[walked[0] as usize] += 1;
         for r in &self.records {
@@ -138,12 +142,26 @@ impl Both {
         if other_bsid(src) {
             self.met.others[later(src, &theirs)? as usize] += 1;
             self.held(&ours, len, &walked)?;
+        } else if decided {
+            self.held(&ours, len, &walked)?;
+            self.by_request(src, &theirs, &walked)?;
         } else {
             beside("our reader", &theirs, &ours.answer, |k| self.rooms.at(k))?;
             self.held(&ours, len, &walked)?;
             beside("the numbered walk", &theirs, &walked, |k| self.records[k])?;
         }
         Ok(theirs)
+    }
+
+    /// A slice that the silence rule decides: the Rust's answer is that of the numbered walk with the Rust's rule.
+    fn by_request(&mut self, src: &[u8], theirs: &Result<Frame>, walked: &Answer) -> std::result::Result<(), String> {
+        let mut records = Vec::new();
+        let a = read_by_request(src, usize::MAX, &mut records, &mut State::new(), &mut Seen::default());
+        beside("the numbered walk with the Rust's silence rule", theirs, &a, |k| records[k])?;
+        for (n, yes) in self.met.decided.iter_mut().zip([true, true, walked[0] == 0, a != *walked || records != self.records]) {
+            *n += u64::from(yes)
+        }
+        Ok(())
     }
 
     /// A slice with these lengths of the rooms, of which the shortest counts.
@@ -154,6 +172,7 @@ impl Both {
         self.met.inputs += 1;
         self.met.numbers[walked[0] as usize] += 1;
         self.met.small_rooms += u64::from(other_bsid(src) && (1..=8).contains(&room));
+        self.met.decided[0] += u64::from(seen.decided() > 0);
         let ours = self.ours(src, len, &walked);
         self.held(&ours, len, &walked)
     }

@@ -2,7 +2,7 @@
 //! a source that chooses each value and writes it. A plan made beforehand keeps most frames in order, so that they are
 //! accepted; some plans aim at a refusal.
 use crate::names::*;
-use crate::numbered::{bits, Inside, Record, Seen, Source, State, Stop, Walk, CPL, SPX_BEGIN, SPX_END};
+use crate::numbered::{bits, Inside, Record, Seen, Source, State, Stop, Walk, CPL, LFE, SPX_BEGIN, SPX_END};
 use crate::standard::{FRAME_EXPSTR, NFCHANS};
 
 pub struct Random(pub u64);
@@ -51,6 +51,17 @@ pub enum Kind {
     Extension,
     Coupling,
     Smallest,
+    /// csnroffst 0, fine offsets above 0 in some slots alone, and pointers above 0 through fast gains and deltas.
+    Faint,
+}
+
+/// The slots of a faint frame that have fine offsets above 0.
+#[derive(Clone, Copy, PartialEq, Eq)]
+enum Loud {
+    None,
+    Hybrid,
+    Others,
+    Coupling,
 }
 
 /// What is settled before a frame is drawn.
@@ -89,6 +100,7 @@ struct Plan {
     /// csnroffst is below this; where it is 0, fine offsets are 0 too unless the plan is faint.
     csnr: usize,
     faint: bool,
+    loud: Loud,
     /// chbwcod is at most this.
     bandwidth: usize,
     /// How lively exponents are, 0 to 3.
@@ -107,7 +119,7 @@ fn plan(r: &mut Random, kind: Kind) -> Plan {
         nfchans: 0, numblks: 0, lfeon: r.chance(1, 3), often: r.pick(&[0, 2, 8, 12]),
         expstre: true, ahte: false, snroffststr: r.below(3) as u32, bamode: r.chance(1, 2), dbaflde: r.chance(1, 4), skipflde: r.chance(1, 4),
         blkstrtinfoe: r.chance(1, 6), cplstre: [false; 6], cplinu: [false; 6], code: [0; 6], cplexpstr: [0; 6], chexpstr: [[0; 5]; 6],
-        lfeexpstr: [0; 6], spx: r.pick(&[0, 0, 8, 15]), cpl: r.pick(&[0, 0, 8, 15]), bare: r.chance(1, 16), csnr: 0, faint: r.chance(1, 3),
+        lfeexpstr: [0; 6], spx: r.pick(&[0, 0, 8, 15]), cpl: r.pick(&[0, 0, 8, 15]), bare: r.chance(1, 16), csnr: 0, faint: r.chance(1, 3), loud: Loud::None,
         bandwidth: r.pick(&[0, 8, 8, 20, 60]), lively: r.below(4), words: 2048,
     };
     match aim {
@@ -131,11 +143,16 @@ fn plan(r: &mut Random, kind: Kind) -> Plan {
             (p.numblkscod, p.acmod, p.lfeon, p.often, p.spx, p.cpl, p.bandwidth) = (0, 1, false, 0, 0, 0, 0);
             (p.strmtyp, p.bamode, p.dbaflde, p.skipflde, p.blkstrtinfoe, p.snroffststr) = (1, false, false, false, false, 0);
         }
+        Kind::Faint => {
+            p.loud = r.pick(&[Loud::Hybrid, Loud::Hybrid, Loud::Hybrid, Loud::Coupling, Loud::Others, Loud::None]);
+            (p.numblkscod, p.snroffststr, p.often, p.bare, p.acmod) = (3, 2, 1, false, 1 + r.below(7) as u32);
+            (p.dbaflde, p.lfeon, p.cpl) = (r.chance(1, 2), r.chance(1, 2), if p.loud == Loud::Coupling { 8 } else { r.pick(&[0, 0, 16]) });
+        }
     }
     p.nfchans = usize::from(NFCHANS[p.acmod as usize]);
     p.numblks = [1, 2, 3, 6][p.numblkscod as usize];
     if p.numblkscod == 3 {
-        p.ahte = aim == 13 || kind == Kind::Hybrid || kind == Kind::Any && r.chance(2, 3);
+        p.ahte = aim == 13 || kind == Kind::Hybrid || kind == Kind::Any && r.chance(2, 3) || kind == Kind::Faint && p.loud != Loud::Coupling;
         p.expstre = r.chance(1, 2) || [23, 24, 25].contains(&aim);
     }
     let most = match p.nfchans * p.numblks {
@@ -145,7 +162,7 @@ fn plan(r: &mut Random, kind: Kind) -> Plan {
         7..=12 => 30,
         _ => 24,
     };
-    p.csnr = if kind == Kind::Smallest || r.chance(1, 10) { 0 } else { 1 + r.below(most) };
+    p.csnr = if kind == Kind::Smallest || kind == Kind::Faint || r.chance(1, 10) { 0 } else { 1 + r.below(most) };
     if p.blkstrtinfoe && p.numblkscod != 0 {
         p.words = r.pick(&[64, 128, 256, 512, 512, 1024, 1024, 2048]);
     }
@@ -246,6 +263,11 @@ impl Draw {
     fn choose(&mut self, s: &State, name: u8, index: i16, width: usize) -> u32 {
         let aim = self.plan.aim;
         let nth = index.max(0) as usize;
+        if self.plan.kind == Kind::Faint {
+            if let Some(value) = self.faint(s, name, nth) {
+                return value;
+            }
+        }
         match name {
             SYNCWORD => if aim == 2 { self.r.below(65536) as u32 } else { 0x0b77 },
             STRMTYP => if aim == 3 { 3 } else { self.plan.strmtyp },
@@ -320,6 +342,29 @@ impl Draw {
 
     fn fine(&mut self) -> u32 {
         if self.plan.csnr == 0 && !(self.plan.faint && self.r.chance(1, 3)) { 0 } else { self.r.below(16) as u32 }
+    }
+
+    /// What a faint frame has of its own.
+    fn faint(&mut self, s: &State, name: u8, nth: usize) -> Option<u32> {
+        let slot = match name {
+            CPLFSNROFFST => CPL,
+            LFEFSNROFFST => LFE,
+            FSNROFFST => nth,
+            CPLAHTINU | CHAHTINU | LFEAHTINU => return Some(self.flag(1, 2)),
+            FRMFGAINCODE | FGAINCODE => return Some(self.flag(7, 8)),
+            CPLFGAINCOD | FGAINCOD | LFEFGAINCOD => return Some(self.r.pick(&[7, 7, 7, 6, 0])),
+            CPLDELTBA | DELTBA => return Some(self.r.pick(&[0, 0, 0, 1, 3, 7])),
+            EXPS_CH_0 | LFEEXPS_0 => return Some(self.r.below(8) as u32),
+            CPLABSEXP => return Some(self.r.below(4) as u32),
+            _ => return None,
+        };
+        let loud = match self.plan.loud {
+            Loud::None => false,
+            Loud::Hybrid => s.ahtinu[slot],
+            Loud::Others => !s.ahtinu[slot],
+            Loud::Coupling => slot == CPL,
+        };
+        Some(if loud && self.r.chance(1, 2) { 1 + self.r.below(15) as u32 } else { 0 })
     }
 
     fn extension(&mut self, s: &State, name: u8, ch: usize) -> u32 {
@@ -412,7 +457,7 @@ impl Drawer {
         let mut d = Draw { r: Random(self.r.next()), buf, plan, turn: (-1, 0) };
         self.s = State::new();
         self.records.clear();
-        let mut w = Walk { src: &mut d, s: &mut self.s, seen: &mut self.seen, records: &mut self.records, room: usize::MAX, at: 0, limit: 8 * 4096, block: -1 };
+        let mut w = Walk { src: &mut d, s: &mut self.s, seen: &mut self.seen, records: &mut self.records, room: usize::MAX, at: 0, limit: 8 * 4096, greatest: 4096, block: -1, by_request: false };
         let end = w.audio();
         let at = w.at;
         let Draw { mut r, buf, plan, .. } = d;

@@ -1,6 +1,7 @@
 //! A numbered reading of an E-AC-3 syncframe (A/52 Annex E), written for the comparison. For every slice and every room it
 //! gives what the Rust does not: the number of a refusal, its place, and the records kept. It agrees with the Rust on all
-//! that the Rust gives. The bits come from a source, so that the same walk also draws frames (generate.rs).
+//! that the Rust gives, but where a request departs from it: bsid is looked at first, and silence goes by every slot in use.
+//! The bits come from a source, so that the same walk also draws frames (generate.rs).
 use crate::names::*;
 use crate::pointers::{pointers, snroffset, Delta, Request};
 use crate::standard::*;
@@ -80,8 +81,25 @@ pub struct Seen {
     pub tag: [u64; 2],
     /// Blocks whose offsets are all 0.
     pub silent: u64,
+    /// What the silence rule goes by, of blocks with a pointer above 0 without it.
+    pub silence: [u64; SILENCE.len()],
     /// Slots that go on with a group of mantissas that a slot before them opened.
     pub across: u64,
+}
+
+/// What the silence rule goes by in a block with csnroffst 0, in which a slot that is asked for has a pointer above 0 where the
+/// block is not silent. The first `DECIDED` are silent by the slots that are asked for alone, and not by those in use.
+pub const SILENCE: [&str; 8] = [
+    "channels read before", "coupling read before", "LFE read before", "several of these", "a slot that is asked for",
+    "none, coupling not in use", "none, slots read before", "none",
+];
+pub const DECIDED: usize = 4;
+
+impl Seen {
+    /// Blocks that the Rust takes for silent, and the rule does not, with a pointer above 0.
+    pub fn decided(&self) -> u64 {
+        self.silence[..DECIDED].iter().sum()
+    }
 }
 
 /// All that the walk knows. Places in arrays go by block, channel or slot.
@@ -199,17 +217,39 @@ pub struct Walk<'a, S> {
     pub room: usize,
     pub at: usize,
     pub limit: usize,
+    /// The bytes of the longest frame that is taken.
+    pub greatest: usize,
     pub block: i8,
+    /// The silence rule of the Rust, which looks at the slots that are asked for alone.
+    pub by_request: bool,
 }
 
 /// The 76 numbers of an answer: number, place, records, and the frame, of which the last 42 are bits by block and slot.
 pub type Answer = [u64; 76];
 
+/// The bytes of the longest frame, and of the longest that the settop entry takes.
+pub const FULL: usize = 4096;
+pub const SETTOP: usize = 1536;
+
 /// Reads a slice with a room.
 pub fn read(src: &[u8], room: usize, records: &mut Vec<Record>, s: &mut State, seen: &mut Seen) -> Answer {
+    read_as(src, FULL, false, room, records, s, seen)
+}
+
+/// Likewise, where longer frames are refused.
+pub fn read_up_to(src: &[u8], greatest: usize, room: usize, records: &mut Vec<Record>, s: &mut State, seen: &mut Seen) -> Answer {
+    read_as(src, greatest, false, room, records, s, seen)
+}
+
+/// Likewise, with the silence rule of the Rust.
+pub fn read_by_request(src: &[u8], room: usize, records: &mut Vec<Record>, s: &mut State, seen: &mut Seen) -> Answer {
+    read_as(src, FULL, true, room, records, s, seen)
+}
+
+fn read_as(src: &[u8], greatest: usize, by_request: bool, room: usize, records: &mut Vec<Record>, s: &mut State, seen: &mut Seen) -> Answer {
     records.clear();
     *s = State::new();
-    let mut w = Walk { src: &mut Slice(src), s, seen, records, room, at: 0, limit: 8 * src.len(), block: -1 };
+    let mut w = Walk { src: &mut Slice(src), s, seen, records, room, at: 0, limit: 8 * src.len(), greatest, block: -1, by_request };
     let end = w.audio().and_then(|()| w.tail());
     let mut answer = [0; 76];
     match end {
@@ -337,6 +377,9 @@ impl<S: Source> Walk<'_, S> {
             return self.stop(3);
         }
         let bytes = 2 * (self.s.frmsiz + 1);
+        if bytes > self.greatest {
+            return self.stop(46);
+        }
         if self.src.bytes() < bytes {
             return self.stop(4);
         }
@@ -954,29 +997,52 @@ impl<S: Source> Walk<'_, S> {
         Ok(())
     }
 
-    /// The slots of this block whose mantissas are not read yet.
-    fn asked(&self) -> impl Iterator<Item = usize> {
-        let s = &*self.s;
-        let asked: [bool; 7] = std::array::from_fn(|slot| {
-            let in_use = match slot {
-                CPL => s.cplinu[s.blk],
-                LFE => s.lfeon,
-                ch => ch < s.nfchans,
-            };
-            in_use && !(s.ahtinu[slot] && s.aht_read[slot])
-        });
-        (0..7).filter(move |&slot| asked[slot])
+    /// The slots that this block has.
+    fn in_use(&self) -> [bool; 7] {
+        std::array::from_fn(|slot| match slot {
+            CPL => self.s.cplinu[self.s.blk],
+            LFE => self.s.lfeon,
+            ch => ch < self.s.nfchans,
+        })
+    }
+
+    /// Those of them whose mantissas are not read yet.
+    fn asked(&self) -> [bool; 7] {
+        let in_use = self.in_use();
+        std::array::from_fn(|slot| in_use[slot] && !(self.s.ahtinu[slot] && self.s.aht_read[slot]))
+    }
+
+    /// Whether the coarse offset is 0, and the fine ones of these slots.
+    fn zero(&self, slots: [bool; 7]) -> bool {
+        self.s.csnroffst == 0 && (0..7).all(|slot| !slots[slot] || self.s.fsnroffst[slot] == 0)
+    }
+
+    /// What the silence rule goes by, in a block with csnroffst 0.
+    fn ruled(&self, in_use: [bool; 7], asked: [bool; 7]) -> usize {
+        let [cpl, lfe] = [CPL, LFE].map(|slot| in_use[slot] && self.s.fsnroffst[slot] > 0);
+        let channels = (0..self.s.nfchans).any(|ch| self.s.fsnroffst[ch] > 0);
+        match (self.zero(asked), self.zero(in_use)) {
+            (false, _) => 4,
+            (_, false) => match (channels, cpl, lfe) {
+                (true, false, false) => 0,
+                (false, true, false) => 1,
+                (false, false, true) => 2,
+                _ => 3,
+            },
+            _ if self.s.fsnroffst[CPL] > 0 => 5,
+            _ if asked != in_use => 6,
+            _ => 7,
+        }
     }
 
     fn allocate(&mut self) -> Step<()> {
         let Some(codes) = self.s.codes else { return self.stop(29) };
-        let silent = self.s.csnroffst == 0 && self.asked().all(|slot| self.s.fsnroffst[slot] == 0);
+        let (in_use, asked) = (self.in_use(), self.asked());
+        let looked_at = if self.by_request { asked } else { in_use };
+        let silent = self.zero(looked_at);
         self.seen.silent += u64::from(silent);
-        for slot in self.asked() {
-            if silent {
-                self.s.baps[slot] = [0; 256];
-                continue;
-            }
+        let mut above = false;
+        for slot in (0..7).filter(|&slot| asked[slot]) {
             let (start, end) = self.s.range(slot);
             let q = Request {
                 exps: &self.s.exps[slot],
@@ -991,6 +1057,13 @@ impl<S: Source> Walk<'_, S> {
                 hebap: self.s.ahtinu[slot],
             };
             pointers(&q, &mut self.s.baps[slot]);
+            above |= self.s.baps[slot][start..end].iter().any(|&p| p > 0);
+            if silent {
+                self.s.baps[slot] = [0; 256]
+            }
+        }
+        if above && self.s.csnroffst == 0 {
+            self.seen.silence[self.ruled(in_use, asked)] += 1
         }
         Ok(())
     }

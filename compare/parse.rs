@@ -14,6 +14,7 @@ use both::{Both, MOST};
 use features::FEATURES;
 use generate::{damage, edges, Drawer, Kind, Random};
 use names::NAMES;
+use numbered::SILENCE;
 use std::collections::BTreeMap;
 
 /// Inputs from which on everything must have been met.
@@ -125,6 +126,9 @@ fn report(c: &Compare) -> Vec<String> {
     counts("gains", gains.into_iter().map(|(mode, g)| (format!("{} under gaqmod {mode}:", 1 << g), m.seen.gain[mode][g])), &mut unmet);
     counts("tags", [("gain 2:", 0), ("gain 4:", 1)].into_iter().map(|(t, k)| (t.to_string(), m.seen.tag[k])), &mut unmet);
     counts("silent blocks", [(String::new(), m.seen.silent)].into_iter(), &mut unmet);
+    counts("csnroffst 0 with a pointer above 0 unless silent, fine offsets above 0 in", SILENCE.iter().zip(m.seen.silence).map(|(what, n)| (format!("{what}:"), n)), &mut unmet);
+    let decided = ["inputs:", "with enough room:", "of these accepted:", "of these with another answer by the Rust's rule:"];
+    counts("decided by the silence rule", decided.iter().zip(m.decided).map(|(what, n)| (what.to_string(), n)), &mut unmet);
     counts("slots with a group of the slot before", [(String::new(), m.seen.across)].into_iter(), &mut unmet);
     counts("records", NAMES.iter().zip(m.names).map(|(name, n)| (name.to_string(), n)), &mut unmet);
     unmet
@@ -161,7 +165,7 @@ fn main() {
     }
     let (first, accepted) = (c.both.met.inputs, c.both.met.accepted);
     c.sound = 0;
-    let kinds = [Kind::Any, Kind::Any, Kind::Any, Kind::Any, Kind::Any, Kind::Any, Kind::Hybrid, Kind::Extension, Kind::Coupling, Kind::Smallest];
+    let kinds = [Kind::Any, Kind::Any, Kind::Any, Kind::Any, Kind::Any, Kind::Any, Kind::Hybrid, Kind::Extension, Kind::Coupling, Kind::Smallest, Kind::Faint];
     let mut drawn = 0u64;
     while c.both.met.inputs - first < count {
         let kind = r.pick(&kinds);

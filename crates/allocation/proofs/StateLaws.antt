@@ -18,7 +18,7 @@ use Rattle.alloc.specs.declared.Deltas.{Deltas}
 use Rattle.alloc.specs.declared.Leak.{Leak}
 use Rattle.alloc.specs.declared.Pointers.{Pointers}
 use Rattle.slots.specs.Held.{Held}
-use Rattle.slots.specs.Slots.{requestedOf}
+use Rattle.slots.specs.Slots.{usedOf, requestedOf}
 use Rattle.allocation.specs.State.{eightOf, segmentsBy, segmentsOf, Alike, offsetsZero, silentOf, channelOf, leakFor, kindOf, expsIn, pointedOf, pointersOf, pointSlot, pointSlots, paramsFor, allocated, bySent, allocatedOf}
 use Rattle.allocation.specs.Coded.{silenced}
 use Rattle.slots.specs.declared.Shape.{Shape}
@@ -144,13 +144,13 @@ module _ (st : AllocState) (shape : Shape) (slot : ℕ) (all : Bool) (so : silen
       last true = refl
       last false = refl
 
-  pub silent-on : slot < 7 → (r : Bool) → r ≡ requestedOf shape slot → (q : Bool) → q ≡ not r || eqb (getD (st .fsnroffst) slot 0) 0 → (a : Bool) → a ≡ all && q
+  pub silent-on : slot < 7 → (r : Bool) → r ≡ usedOf shape slot → (q : Bool) → q ≡ not r || eqb (getD (st .fsnroffst) slot 0) 0 → (a : Bool) → a ≡ all && q
       → silentOf st shape ≡ a && offsetsZero st shape (slot + 1) (7 - (slot + 1))
   unfolding offsetsZero
   silent-on h r c q d a e =
       let f : 7 - slot ≡ suc (7 - (slot + 1)) = omega arith in
       let g : slot + 1 ≡ suc slot = omega arith in
-      so ∙ rw (f, e, d, c, ← g) (and-assoc all (not (requestedOf shape slot) || eqb (getD (st .fsnroffst) slot 0) 0) (offsetsZero st shape (slot + 1) (7 - (slot + 1))))
+      so ∙ rw (f, e, d, c, ← g) (and-assoc all (not (usedOf shape slot) || eqb (getD (st .fsnroffst) slot 0) 0) (offsetsZero st shape (slot + 1) (7 - (slot + 1))))
 
 -- the pointers of a slot
 module _ (st : AllocState) (p : Params) (shape : Shape) (d : Segments) (exps : List ℕ) (slot : ℕ) where

@@ -15,7 +15,7 @@ use Rattle.alloc.specs.declared.Leak.the-variants.{Absent, Pair}
 use Rattle.alloc.specs.declared.Pointers.{Pointers}
 use Rattle.alloc.specs.declared.Pointers.the-variants.{Bap, Hebap}
 use Rattle.slots.specs.Slots.{CPL, LFE}
-use Rattle.slots.specs.Slots.{rangeOf, requestedOf}
+use Rattle.slots.specs.Slots.{rangeOf, usedOf, requestedOf}
 use Rattle.slots.specs.declared.Shape.{Shape}
 use Rattle.allocation.specs.declared.Codes.{Codes}
 use Rattle.allocation.specs.declared.Parameters.{Parameters}
@@ -62,10 +62,10 @@ pub record Alike (a b : Deltas) : Type 0 where
   pub many : a .n ≡ b .n
   pub rest : (a .n ≡ 0 → ⊥) → a ≡ b
 
--- 7.2.2.1: where csnroffst and every fsnroffst in use are 0, all pointers are 0
+-- 7.2.2.1: where csnroffst and the fsnroffst of every slot in use are 0, all pointers are 0. A slot of the adaptive hybrid transform that was read before is in use.
 unfoldable pub offsetsZero : AllocState → Shape → ℕ → ℕ → Bool
 offsetsZero st shape slot zero = true
-offsetsZero st shape slot (suc n) = (not (requestedOf shape slot) || eqb (getD (st .fsnroffst) slot 0) 0) && offsetsZero st shape (suc slot) n
+offsetsZero st shape slot (suc n) = (not (usedOf shape slot) || eqb (getD (st .fsnroffst) slot 0) 0) && offsetsZero st shape (suc slot) n
 
 unfoldable pub silentOf : AllocState → Shape → Bool
 silentOf st shape = eqb (st .csnroffst) 0 && offsetsZero st shape 0 7

@@ -16,6 +16,7 @@ use slots::Shape;
 use slots::hybrid;
 use slots::range_at;
 use slots::requested;
+use slots::used;
 ghost use mathlib.Core.Path.{_≡_};
 ghost use mathlib.Core.Bool.{_&&_, _||_, not, cond};
 ghost use mathlib.Core.List.{[], _∷_};
@@ -110,10 +111,10 @@ fn word_at(xs: &[u8; 48], slot: u8) -> u64
     )
 }
 
-fn no_offset(asked: bool, fsnroffst: u8) -> bool
-    ensures { λ r. ⌜ r ≡ not asked || eqb fsnroffst 0 ⌝ }
+fn no_offset(used: bool, fsnroffst: u8) -> bool
+    ensures { λ r. ⌜ r ≡ not used || eqb fsnroffst 0 ⌝ }
 {
-    !asked || fsnroffst == 0
+    !used || fsnroffst == 0
 }
 
 fn both(a: bool, b: bool) -> bool
@@ -122,7 +123,7 @@ fn both(a: bool, b: bool) -> bool
     a && b
 }
 
-// Whether the coarse offset and the fine offsets of all slots that are asked for are 0.
+// Whether the coarse offset and the fine offsets of all slots in use are 0.
 fn silent(st: AllocState, shape: Shape) -> bool
     ensures { λ r. ⌜ r ≡ silentOf st shape ⌝ }
 {
@@ -130,7 +131,7 @@ fn silent(st: AllocState, shape: Shape) -> bool
     let mut slot: u8 = 0;
     while slot < 7 {
         let i = slot as usize;
-        all = both(all, no_offset(requested(shape, slot), st.fsnroffst[i]));
+        all = both(all, no_offset(used(shape, slot), st.fsnroffst[i]));
         slot += 1;
     }
     all

@@ -19,7 +19,7 @@ unfolding silentOf
 loop-holds c = (omega arith, refl)
 
 loop-again : tie.Need-loop-again Inv-loop μ-loop
-loop-again c = (omega arith, silent-on _ _ _ (c .before .before .before .before .before .loop .all) (c .before .before .before .before .before .loop .inv .1) (c .before .before .before .before .loop-test .taken) _ (c .before .before .before .requested .ensures) _ (c .before .no-offset .ensures) _ (c .both .ensures))
+loop-again c = (omega arith, silent-on _ _ _ (c .before .before .before .before .before .loop .all) (c .before .before .before .before .before .loop .inv .1) (c .before .before .before .before .loop-test .taken) _ (c .before .before .before .used .ensures) _ (c .before .no-offset .ensures) _ (c .both .ensures))
 
 returns : tie.Need-returns Inv-loop μ-loop
 returns c = silent-end _ _ _ _ (c .before .loop .inv .1) (c .loop-test .left)
