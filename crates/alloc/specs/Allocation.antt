@@ -79,7 +79,7 @@ bndpsd exp start end k =
     (sum exp (firstIn start k) (lastIn end k - firstIn start k - 1))
     (pos 0)
 
--- powers and sums of the range up to bin n: psd of its bins start .. n - 1, and bndpsd of the bands as far as these bins go
+-- powers and sums of the range up to bin n: psd by bin, looked at for the bins start .. n - 1 alone, and bndpsd of the bands as far as these bins go
 pub record Range : Type 0 where
   pub powers : ℕ → ℤ
   pub sums : ℕ → ℤ
