@@ -1,4 +1,4 @@
-/* The E-AC-3 syncframe reader for C, what finds the next frame of a capture, and what changes a frame: link target/staticlib/libeac3_c.a (rt staticlib eac3_c), x86-64 Linux.
+/* The E-AC-3 syncframe reader for C, what finds the next frame of a capture, and what changes a frame: link target/hosts/libeac3.a (sh tools/library), x86-64 Linux.
  *
  * The caller owns every array; nothing is kept after the call, nothing is allocated, and the call may be made from
  * any number of threads at once. No array may overlap another. All lengths may be 0, and then the pointers are not read,

@@ -1,4 +1,4 @@
-//! The E-AC-3 syncframe reader for Rust, what finds the next frame of a capture, and what changes a frame: a safe wrapper of the static library (rt staticlib eac3_c), without allocation.
+//! The E-AC-3 syncframe reader for Rust, what finds the next frame of a capture, and what changes a frame: a safe wrapper of the static library (sh tools/library), without allocation.
 
 #[allow(improper_ctypes)]
 extern "C" {

@@ -15,7 +15,7 @@ use Rattle.print.proofs.Signs.{not-below}
 use Rattle.reading.specs.Room.{Room}
 use Rattle.answer.specs.declared.Frame.{Frame}
 use Rattle.answer.specs.declared.Verdict.{Verdict}
-use Rattle.eac3_c.specs.Numbers.{frameNumbers}
+use Rattle.answer_c.specs.Numbers.{frameNumbers}
 use Rattle.replay.specs.Sums.{raisedOf, addedOf, sumOf}
 use Rattle.replay.specs.Cases.{verdictOf, keptOf, agreesOf, endsOf, sameBy}
 use Rattle.replay.specs.declared.sums.Sum.{Sum}

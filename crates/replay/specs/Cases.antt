@@ -7,7 +7,7 @@ use lib.ListN.{getD}
 use Rattle.answer.specs.declared.Frame.{Frame}
 use Rattle.answer.specs.declared.Verdict.{Verdict}
 use Rattle.answer.specs.declared.Verdict.the-variants.{Accepted, Refused}
-use Rattle.eac3_c.specs.Numbers.{frameNumbers}
+use Rattle.answer_c.specs.Numbers.{frameNumbers}
 use Rattle.listing.specs.declared.Records.{Records}
 use Rattle.replay.specs.Sums.{sum, roomOf, sumOf}
 use Rattle.replay.specs.declared.sums.Sum.{Sum}

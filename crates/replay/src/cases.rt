@@ -7,7 +7,7 @@ ghost use Rattle.replay.specs.Cases.{kindOf, verdictOf, keptOf, agreesOf
 use crate::sums::Sum;
 use crate::sums::summed;
 use answer::Verdict;
-use eac3_c::numbers;
+use answer_c::numbers;
 use listing::Records;
 
 // The Rust's error by the number of a refusal: 1 Invalid, 2 Unsupported, 3 Truncated; 4 for 33, which it has not.

@@ -6,9 +6,9 @@ use Rattle.reading.specs.Room.{room}
 use Rattle.search.specs.Find.{roomAfter}
 use Rattle.search.specs.declared.Found.{Found}
 use borrow.Author.Needs.{needs}
-use Rattle.eac3_c.proofs.Laying.{bare-found, found-laid}
-use Rattle.eac3_c.proofs.eac3_find.Statement.{statement}
-use Rattle.eac3_c.proofs.eac3_find.Tie as tie
+use Rattle.search_c.proofs.Laid.{bare-found, found-laid}
+use Rattle.search_c.proofs.eac3_find.Statement.{statement}
+use Rattle.search_c.proofs.eac3_find.Tie as tie
 
 tell-requires : tie.Need-tell-requires
 tell-requires c κs = (bare-found (c .before .before .before .before .before .before .before .before .before .before .before .find .ensures), omega (arith, c .tell-arg .given .0 .1))

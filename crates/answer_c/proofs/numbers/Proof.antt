@@ -1,10 +1,10 @@
 -- The flags are numbers by their calls; all else is in its place.
 use mathlib.Core.Path.{refl}
-use Rattle.eac3_c.specs.Numbers.{frameNumbers}
-use Rattle.eac3_c.proofs.Laying.{also}
+use Rattle.answer_c.specs.Numbers.{frameNumbers}
+use Rattle.answer_c.proofs.Laying.{also}
 use borrow.Author.Needs.{needs}
-use Rattle.eac3_c.proofs.numbers.Statement.{statement}
-use Rattle.eac3_c.proofs.numbers.Tie as tie
+use Rattle.answer_c.proofs.numbers.Statement.{statement}
+use Rattle.answer_c.proofs.numbers.Tie as tie
 
 returns : tie.Need-returns
 unfolding frameNumbers

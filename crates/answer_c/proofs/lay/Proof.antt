@@ -3,11 +3,11 @@ use mathlib.Core.Path.{_≡_, refl, _∙_}
 use Prim.Native.Nat.{_+_, _-_, _≤_}
 use native.Mathlib.Omega.{arith}
 use lib.ListN.{length, length-set, set}
-use Rattle.eac3_c.specs.Numbers.{written, laid}
-use Rattle.eac3_c.proofs.Laying.{written-none, written-more, written-all, three-set}
+use Rattle.answer_c.specs.Numbers.{written, laid}
+use Rattle.answer_c.proofs.Laying.{written-none, written-more, written-all, three-set}
 use borrow.Author.Needs.{needs}
-use Rattle.eac3_c.proofs.lay.Statement.{statement}
-use Rattle.eac3_c.proofs.lay.Tie as tie
+use Rattle.answer_c.proofs.lay.Statement.{statement}
+use Rattle.answer_c.proofs.lay.Tie as tie
 
 abbrev Inv-loop : tie.InvT-loop
 Inv-loop out₀ number place count frame i₀ out i = (i ≤ 31) × (out ≡ written out₀ 3 frame i) × (length out ≡ length out₀)

@@ -5,7 +5,7 @@ use Prim.Native.Nat.{ℕ}
 use lib.ListN.{set, replicate}
 use Rattle.answer.specs.Answer.{nothing, numberOf}
 use Rattle.answer.specs.declared.Answer.{Answer}
-use Rattle.eac3_c.specs.Numbers.{written}
+use Rattle.answer_c.specs.Numbers.{written}
 
 -- an answer that has no frame where it is a refusal
 abbrev pub Bare : Answer → Type 0

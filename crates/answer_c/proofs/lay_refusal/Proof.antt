@@ -3,12 +3,12 @@ use mathlib.Core.Path.{_≡_, refl, sym, _∙_}
 use Prim.Native.Nat.{_+_, _-_, _<_, _≤_}
 use native.Mathlib.Omega.{arith}
 use lib.ListN.{length, length-set, set, replicate, getD-replicate}
-use Rattle.eac3_c.specs.Numbers.{written}
-use Rattle.eac3_c.specs.Parts.{refusalLaid}
-use Rattle.eac3_c.proofs.Laying.{written-none, written-more, written-all, three-set}
+use Rattle.answer_c.specs.Numbers.{written}
+use Rattle.answer_c.specs.Parts.{refusalLaid}
+use Rattle.answer_c.proofs.Laying.{written-none, written-more, written-all, three-set}
 use borrow.Author.Needs.{needs}
-use Rattle.eac3_c.proofs.lay_refusal.Statement.{statement}
-use Rattle.eac3_c.proofs.lay_refusal.Tie as tie
+use Rattle.answer_c.proofs.lay_refusal.Statement.{statement}
+use Rattle.answer_c.proofs.lay_refusal.Tie as tie
 
 abbrev Inv-loop : tie.InvT-loop
 Inv-loop out₀ number place count i₀ out i = (i ≤ 73) × (out ≡ written out₀ 3 (replicate 73 0) i) × (length out ≡ length out₀)

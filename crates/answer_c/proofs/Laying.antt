@@ -1,25 +1,18 @@
 -- Numbers written one after another. Assumes nothing.
-use mathlib.Core.Path.{_≡_, refl, sym, ap, ap₂, subst, _∙_}
-use mathlib.Core.Bool.{Bool, true, false, cond}
+use mathlib.Core.Path.{_≡_, refl, sym, ap, ap₂, _∙_}
 use mathlib.Core.List.{List, _∷_}
-use Prim.Native.Nat.{ℕ, _+_, _-_, _*_}
+use Prim.Native.Nat.{ℕ, _+_, _*_}
 use native.Mathlib.Numerals.{add-one}
-use lib.Dec.{ltb, eqb}
 use lib.ListN.{length, length-set, getD, set}
 use Rattle.reading.specs.Run.{Result, accepted, refused}
-use Rattle.reading.specs.Room.{Room, Out}
+use Rattle.reading.specs.Room.{Out}
 use Rattle.cells.specs.Cells.{State}
 use Rattle.answer.specs.declared.Answer.{Answer}
 use Rattle.answer.specs.declared.Frame.{Frame}
 use Rattle.answer.specs.declared.SlotBits.{SlotBits}
-use Rattle.answer.specs.declared.Verdict.the-variants.{Refused}
-use Rattle.eac3.specs.Called.{answered}
-use Rattle.search.specs.declared.Found.{Found}
-use Rattle.search.specs.Find.{noneNumber, noneFound, reading, countAfter, passed, tries, foundIn, Searched}
-use Rattle.mastering.specs.SetWord.{acceptedBy, answerWith, number, answerSet, WordSet}
-use Rattle.eac3_c.specs.Numbers.{written, laid, blockBits, bitsLaid, laidOf, frameNumbers}
-use Rattle.eac3_c.specs.Parts.{Bare, refusalLaid}
-use Rattle.answer.specs.Answer.{placeAt, nothing, answerBy, answerOf, numberOf, placeOf, countOf}
+use Rattle.answer_c.specs.Numbers.{written, laid, blockBits, bitsLaid, laidOf, frameNumbers}
+use Rattle.answer_c.specs.Parts.{Bare, refusalLaid}
+use Rattle.answer.specs.Answer.{nothing, answerBy, answerOf, numberOf, placeOf, countOf}
 
 pub written-none : (m : List ℕ) (k : ℕ) (vs : List ℕ) → m ≡ written m k vs 0
 unfolding written
@@ -64,7 +57,7 @@ pub laid-none : (m y : List ℕ) (n p k : ℕ) (a : Answer) → a .frame ≡ not
 laid-none m y n p k a e d f g h =
     d ∙ none-numbers m n p k ∙ rw f (rw g (rw h (ap (λ (x : Frame). bitsLaid (laid m (numberOf a) (placeOf a) (countOf a) (frameNumbers x)) (x .«slot_bits») 6) (sym e))))
 
--- the answers of a reading, and of a word that is set, have no frame where they are refusals
+-- the answer of a reading has no frame where it is a refusal
 bare-by : (r : Result State) (p n : ℕ) → Bare (answerBy r p n)
 bare-by (accepted st) p n h = absurd (h refl)
 bare-by (refused k) p n h = refl
@@ -72,43 +65,3 @@ bare-by (refused k) p n h = refl
 pub bare-answer : (o : Out State) → Bare (answerOf o)
 unfolding answerOf
 bare-answer o = bare-by (o .result) (o .place) (o .count)
-
-bare-with : (b : Bool) (a : Answer) (k n : ℕ) → Bare a → Bare (cond b a (record { verdict = Refused k (placeAt 0) n; frame = nothing }))
-bare-with true a k n h = h
-bare-with false a k n h = λ _. refl
-
-bare-or : (b : Bool) (a c : Answer) → Bare a → Bare c → Bare (cond b a c)
-bare-or true a c h k = h
-bare-or false a c h k = k
-
-bare-set : (s : List ℕ) (o : Out State) (i v : ℕ) → Bare (answerSet s o i v)
-bare-set s o i v =
-    let k = number s o i v in
-    bare-or (acceptedBy (answerOf o .verdict)) (answerWith (answerOf o) k (o .count)) (answerOf o) (bare-with (eqb k 0) (answerOf o) k (o .count) (bare-answer o)) (bare-answer o)
-
-pub bare-word : {s : List ℕ} {m : Room} {i v : ℕ} {a : Answer} {s′ : List ℕ} {m′ : Room} → WordSet s m i v a s′ m′ → Bare a
-bare-word {s} {m} {i} {v} h = subst Bare (sym (h .answer)) (bare-set s (answered s m) i v)
-
--- what a search finds is the answer of a reading, or has no frame
-bare-in : (s : List ℕ) (m : Room) (start most : ℕ) → Bare (foundIn s m start most .answer)
-unfolding foundIn
-bare-in s m start most = go (ltb (passed s m start (tries s m start most)) (tries s m start most))
-  where
-    go : (b : Bool)
-        → Bare
-        (cond b
-        (record { answer = answerOf (reading s m start (passed s m start (tries s m start most))); position = start + passed s m start (tries s m start most); tried = passed s m start (tries s m start most) + 1 })
-        (noneFound (noneNumber (length s - start) most) (countAfter s m start (tries s m start most)) (tries s m start most))
-        .answer)
-    go true = bare-answer (reading s m start (passed s m start (tries s m start most)))
-    go false = λ _. refl
-
-pub bare-found : {s : List ℕ} {m : Room} {start most : ℕ} {f : Found} {m′ : Room} → Searched s m start most f m′ → Bare (f .answer)
-bare-found {s} {m} {start} {most} h = subst (λ (f : Found). Bare (f .answer)) (sym (h .found)) (bare-in s m start most)
-
--- with the position and the number tried
-pub found-laid : (before x : List ℕ) (f g : Found) → x ≡ laidOf before (f .answer) → f ≡ g
-    → set (set x 76 (f .position)) 77 (f .tried) ≡ set (set (laidOf before (g .answer)) 76 (g .position)) 77 (g .tried)
-found-laid before x f g ex e =
-    ap (λ (x : List ℕ). set (set x 76 (f .position)) 77 (f .tried)) ex
-    ∙ ap (λ (f : Found). set (set (laidOf before (f .answer)) 76 (f .position)) 77 (f .tried)) e

@@ -3,11 +3,11 @@ use mathlib.Core.Path.{_≡_, refl, _∙_}
 use Prim.Native.Nat.{_-_, _≤_}
 use native.Mathlib.Omega.{arith}
 use lib.ListN.{length}
-use Rattle.eac3_c.specs.Numbers.{bitsLaid}
-use Rattle.eac3_c.proofs.Laying.{bits-none, bits-more, bits-all}
+use Rattle.answer_c.specs.Numbers.{bitsLaid}
+use Rattle.answer_c.proofs.Laying.{bits-none, bits-more, bits-all}
 use borrow.Author.Needs.{needs}
-use Rattle.eac3_c.proofs.lay_bits.Statement.{statement}
-use Rattle.eac3_c.proofs.lay_bits.Tie as tie
+use Rattle.answer_c.proofs.lay_bits.Statement.{statement}
+use Rattle.answer_c.proofs.lay_bits.Tie as tie
 
 abbrev Inv-loop : tie.InvT-loop
 Inv-loop out₀ slots block₀ out block = (block ≤ 6) × (out ≡ bitsLaid out₀ slots block) × (length out ≡ length out₀)

@@ -3,11 +3,11 @@ use mathlib.Core.Path.{_≡_, refl, _∙_}
 use Prim.Native.Nat.{_+_, _-_, _≤_}
 use native.Mathlib.Omega.{arith}
 use lib.ListN.{length, length-set}
-use Rattle.eac3_c.specs.Numbers.{written}
-use Rattle.eac3_c.proofs.Laying.{written-none, written-more, written-all}
+use Rattle.answer_c.specs.Numbers.{written}
+use Rattle.answer_c.proofs.Laying.{written-none, written-more, written-all}
 use borrow.Author.Needs.{needs}
-use Rattle.eac3_c.proofs.lay_seven.Statement.{statement}
-use Rattle.eac3_c.proofs.lay_seven.Tie as tie
+use Rattle.answer_c.proofs.lay_seven.Statement.{statement}
+use Rattle.answer_c.proofs.lay_seven.Tie as tie
 
 abbrev Inv-loop : tie.InvT-loop
 Inv-loop out₀ at numbers i₀ out i = (i ≤ 7) × (out ≡ written out₀ at numbers i) × (length out ≡ length out₀)

@@ -3,11 +3,11 @@ use mathlib.Core.Path.{ap, _∙_}
 use native.Mathlib.Omega.{arith}
 use Rattle.answer.specs.Answer.{numberOf}
 use Rattle.answer.specs.declared.Answer.{Answer}
-use Rattle.eac3_c.specs.Numbers.{laidOf}
+use Rattle.answer_c.specs.Numbers.{laidOf}
 use borrow.Author.Needs.{needs}
-use Rattle.eac3_c.proofs.Laying.{bare-word}
-use Rattle.eac3_c.proofs.eac3_set_word.Statement.{statement}
-use Rattle.eac3_c.proofs.eac3_set_word.Tie as tie
+use Rattle.mastering_c.proofs.Bare.{bare-word}
+use Rattle.mastering_c.proofs.eac3_set_word.Statement.{statement}
+use Rattle.mastering_c.proofs.eac3_set_word.Tie as tie
 
 tell-requires : tie.Need-tell-requires
 tell-requires c κs = (bare-word (c .before .before .before .before .before .before .before .before .before .before .before .before .before .set-word .ensures), omega (arith, c .tell-arg .given .0 .1))

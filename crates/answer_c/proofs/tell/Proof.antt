@@ -2,9 +2,9 @@
 use native.Mathlib.Omega.{arith}
 use mathlib.Core.Path.{_∙_}
 use borrow.Author.Needs.{needs}
-use Rattle.eac3_c.proofs.Laying.{laid-are, laid-none}
-use Rattle.eac3_c.proofs.tell.Statement.{statement}
-use Rattle.eac3_c.proofs.tell.Tie as tie
+use Rattle.answer_c.proofs.Laying.{laid-are, laid-none}
+use Rattle.answer_c.proofs.tell.Statement.{statement}
+use Rattle.answer_c.proofs.tell.Tie as tie
 
 lay-requires : tie.Need-lay-requires
 lay-requires c κs = omega (arith, c .before .before .before .before .before .before .before .before .pre .1)

@@ -1,19 +1,13 @@
--- The answer as 76 numbers, for hosts outside; that of a search as 78.
-use mathlib.Core.Path.{_≡_}
+-- An answer as 76 numbers, for hosts outside.
 use mathlib.Core.Bool.{Bool, true, false}
 use mathlib.Core.List.{List, [], _∷_}
 use Prim.Native.Nat.{ℕ, zero, suc, _+_, _*_}
 use lib.ListN.{getD, set}
-use Rattle.reading.specs.Room.{Room, Out}
-use Rattle.cells.specs.Cells.{State}
 use Rattle.bits.specs.declared.BitPlace.{BitPlace}
-use Rattle.answer.specs.Answer.{placeAt, answerOf, numberOf, placeOf, countOf}
+use Rattle.answer.specs.Answer.{placeAt, numberOf, placeOf, countOf}
 use Rattle.answer.specs.declared.Answer.{Answer}
 use Rattle.answer.specs.declared.Frame.{Frame}
 use Rattle.answer.specs.declared.SlotBits.{SlotBits}
-use Rattle.eac3.specs.Called.{answered}
-use Rattle.search.specs.Find.{roomAfter, foundIn}
-use Rattle.mastering.specs.SetWord.{answerSet, bytesSet, roomSet}
 
 abbrev pub bitOf : Bool → ℕ
 bitOf true = 1
@@ -83,22 +77,3 @@ bitsLaid m ts (suc n) = written (bitsLaid m ts n) (34 + 7 * n) (blockBits ts n) 
 
 abbrev pub laidOf : List ℕ → Answer → List ℕ
 laidOf m a = bitsLaid (laid m (numberOf a) (placeOf a) (countOf a) (frameNumbers (a .frame))) (a .frame .«slot_bits») 6
-
--- what the function tells: the number, the room as the reading left it, and the answer
-pub record Given (o : Out State) (r : ℕ) (m : Room) (before after : List ℕ) : Type 0 where
-  pub number : r ≡ numberOf (answerOf o)
-  pub left : m ≡ o .left
-  pub answer : after ≡ laidOf before (answerOf o)
-
--- what the function that sets a word tells: the number, the bytes and the room then, and the answer
-pub record WordGiven (s : List ℕ) (m : Room) (i v r : ℕ) (s′ : List ℕ) (m′ : Room) (before after : List ℕ) : Type 0 where
-  pub number : r ≡ numberOf (answerSet s (answered s m) i v)
-  pub bytes : s′ ≡ bytesSet s (answered s m) i v
-  pub left : m′ ≡ roomSet s (answered s m) i v
-  pub answer : after ≡ laidOf before (answerSet s (answered s m) i v)
-
--- what the function that finds a frame tells: the number, the room then, and the answer, with the position and the number tried in its last two places
-pub record FoundGiven (s : List ℕ) (m : Room) (start most r : ℕ) (m′ : Room) (before after : List ℕ) : Type 0 where
-  pub number : r ≡ numberOf (foundIn s m start most .answer)
-  pub left : m′ ≡ roomAfter s m start (foundIn s m start most .tried)
-  pub answer : after ≡ set (set (laidOf before (foundIn s m start most .answer)) 76 (foundIn s m start most .position)) 77 (foundIn s m start most .tried)
