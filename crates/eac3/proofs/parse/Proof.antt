@@ -1,6 +1,7 @@
 use native.Mathlib.Omega.{arith}
 use borrow.Author.Needs.{needs}
-use Rattle.eac3.proofs.Parts.{full-called, opened-answer, begun-answer}
+use Rattle.frame.proofs.Parts.{opened-answer, begun-answer}
+use Rattle.eac3.proofs.Calls.{full-called}
 use Rattle.eac3.proofs.parse.Statement.{statement}
 use Rattle.eac3.proofs.parse.Tie as tie
 

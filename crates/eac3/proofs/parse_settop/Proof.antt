@@ -1,11 +1,13 @@
+use mathlib.Core.Path.{refl}
 use native.Mathlib.Omega.{arith}
 use borrow.Author.Needs.{needs}
-use Rattle.eac3.proofs.Parts.{settop-called, opened-answer, begun-answer}
+use Rattle.frame.proofs.Parts.{opened-answer, begun-answer}
+use Rattle.eac3.proofs.Calls.{settop-called}
 use Rattle.eac3.proofs.parse_settop.Statement.{statement}
 use Rattle.eac3.proofs.parse_settop.Tie as tie
 
 returns : tie.Need-returns
-returns c = opened-answer 1536 _ _ (c .before .before .before .before .before .before .before .before .before .before .before .before .begin .result) _ (c .before .before .before .before .before .before .before .before .before .before .before .before .begin .ensures) (c .before .if1 .taken) _ (c .refusal .ensures)
+returns c = settop-called _ _ 1536 _ _ (opened-answer 1536 _ _ (c .before .before .before .before .before .before .before .before .before .before .before .before .begin .result) _ (c .before .before .before .before .before .before .before .before .before .before .before .before .begin .ensures) (c .before .if1 .taken) _ (c .refusal .ensures)) refl
 
 begun-requires : tie.Need-begun-requires
 begun-requires c κs = c .before .before .before .before .before .before .before .before .before .before .before .before .before .before .before .before .before .begin .ensures .goes (c .before .before .before .before .before .before .if1 .left) .begun

@@ -1,4 +1,4 @@
--- The parts of the entry, one after another, are the definition. Assumes nothing.
+-- The parts of a frame, one after another, are the definition. Assumes nothing.
 use mathlib.Core.Path.{_≡_, refl, ap, sym, subst, _∙_}
 use mathlib.Core.Bool.{Bool, true, false, cond, not}
 use mathlib.Core.List.{List, []}
@@ -40,8 +40,7 @@ use Rattle.answer.specs.Cursors.{refusalFrom, answerFrom}
 use Rattle.answer.specs.declared.Answer.{Answer}
 use Rattle.answer.proofs.Laws.{answer-from, number-by, place-by, count-by}
 use Rattle.opening.specs.Opened.{Opened}
-use Rattle.eac3.specs.Called.{answeredBy, CalledBy, Called, SettopCalled}
-use Rattle.eac3.specs.Parts.{placed, followed, readOf}
+use Rattle.frame.specs.Parts.{placed, followed, readOf, readBy, ReadBy}
 
 followed-then : (c : Cursor) (st : State) (m : Room) (f : State → ℕ → Outcome State)
     → followed c st m f ≡ (outcome c st m then (λ a p i r. placed i r (f a p)))
@@ -188,58 +187,33 @@ module _ (g : ℕ) (s : List ℕ) (c : Cursor) (st : State) (m : Room) (live : c
     tail-follows x r mt q = whole _ (goes-on d su mu (finish tailNames s l) _ x q)
 
 module _ (s : List ℕ) (m : Room) where
-  called : (F : Format State State) {a : Answer} {mu : Room} → a ≡ answerOf (answeredBy F s m) → mu ≡ answeredBy F s m .left → CalledBy F s m a mu
-  unfolding answerOf
-  called F {a} {mu} e l =
-      let o = answeredBy F s m in
-      record {
-        answer = e;
-        number = ap numberOf e ∙ number-by (o .result) (o .place) (o .count);
-        place = λ k f. ap answerPlace e ∙ place-by (o .result) (o .place) (o .count) k f;
-        count = ap countOf e ∙ count-by (o .result) (o .place) (o .count);
-        left = l;
-      }
-
-  -- frmsiz announces no frame above 4,096 bytes
-  full : (g : ℕ) → 4096 ≤ g → parse (upTo g eac3) s ≡ parse eac3 s
-  unfolding eac3
-  full g i = let z : bitsAt s 21 11 < 2048 = bitsAt-lt s 21 11 in let h : announcedBy s ≤ g = omega arith in parse-alike g eac3 tells s h
-
-  pub full-called : (g : ℕ) (a : Answer) (mu : Room) → CalledBy (upTo g eac3) s m a mu → 4096 ≤ g → Called s m a mu
-  full-called g a mu c i =
-      let e = full g i in
-      called eac3 (c .answer ∙ ap (λ (o : Outcome State). answerOf (into 0 m (cut (size m) o))) e) (c .left ∙ ap (λ (o : Outcome State). into 0 m (cut (size m) o) .left) e)
-
-  pub settop-called : (g : ℕ) (a : Answer) (mu : Room) → CalledBy (upTo g eac3) s m a mu → g ≡ 1536 → SettopCalled s m a mu
-  settop-called g a mu c e = subst (λ n. CalledBy (upTo n eac3) s m a mu) e c
-
   pub whole-answer : (g : ℕ) (c : Cursor) (st : State) (mu : Room) (a : Answer) → 6 ≤ length s → outcome c st mu ≡ placed 0 m (readOf g s) → a ≡ answerFrom c (st .cells)
-      → CalledBy (upTo g eac3) s m a mu
+      → ReadBy (upTo g eac3) s m a mu
   unfolding readOf
   whole-answer g c st mu a h e ea =
       let z : size m - 0 ≡ size m = omega arith in
       let p : readOf g s ≡ parse (upTo g eac3) s = sym (parse-is g eac3 s ∙ rw (le-leb 6 (length s) h) refl) in
-      let w : outcome c st mu ≡ answeredBy (upTo g eac3) s m = e ∙ ap (λ k. into 0 m (cut k (readOf g s))) z ∙ ap (λ (o : Outcome State). into 0 m (cut (size m) o)) p in
-      called (upTo g eac3) (ea ∙ answer-from c st mu ∙ ap answerOf w) (ap (λ (o : Out State). o .left) w)
+      let w : outcome c st mu ≡ readBy (upTo g eac3) s m = e ∙ ap (λ k. into 0 m (cut k (readOf g s))) z ∙ ap (λ (o : Outcome State). into 0 m (cut (size m) o)) p in
+      record { answer = ea ∙ answer-from c st mu ∙ ap answerOf w; left = ap (λ (o : Out State). o .left) w }
 
-  pub short-answer : (g : ℕ) (c : Cursor) (a : Answer) → length s < 6 → c ≡ haltedAt 0 0 1 → a ≡ refusalFrom c → CalledBy (upTo g eac3) s m a m
+  pub short-answer : (g : ℕ) (c : Cursor) (a : Answer) → length s < 6 → c ≡ haltedAt 0 0 1 → a ≡ refusalFrom c → ReadBy (upTo g eac3) s m a m
   unfolding answerOf cut fill
   short-answer g c a h k e =
       let p : parse (upTo g eac3) s ≡ out (refused 1) 0 [] = parse-is g eac3 s ∙ rw (lt-leb 6 (length s) h) refl in
-      called (upTo g eac3) (rw (e, k, p) refl) (rw p refl)
+      record { answer = rw (e, k, p) refl; left = rw p refl }
 
 -- a slice that is refused where it is opened, and one that is begun
 module _ (g : ℕ) (s : List ℕ) (m : Room) (c : Cursor) (mu : Room) (o : Opened s m c mu) where
-  pub opened-answer : c .stopped ≡ true → (a : Answer) → a ≡ refusalFrom c → CalledBy (upTo g eac3) s m a mu
+  pub opened-answer : c .stopped ≡ true → (a : Answer) → a ≡ refusalFrom c → ReadBy (upTo g eac3) s m a mu
   opened-answer x a e = by (decLt (length s) 6)
     where
-      by : Dec (length s < 6) → CalledBy (upTo g eac3) s m a mu
+      by : Dec (length s < 6) → ReadBy (upTo g eac3) s m a mu
       by (yes h) =
           let t = o .short h in
-          subst (CalledBy (upTo g eac3) s m a) (sym (t .left)) (short-answer s m g c a h (t .is) e)
+          subst (ReadBy (upTo g eac3) s m a) (sym (t .left)) (short-answer s m g c a h (t .is) e)
       by (no h) =
           let l : 6 ≤ length s = omega arith in
           whole-answer s m g c start mu a l (stays c start mu (tested g eac3 s) x ∙ begins g s m c start mu (o .stops x l)) (rw x e)
 
-  pub begun-answer : c .stopped ≡ false → (a : Answer) (mt : Room) → CalledBy (upTo g eac3) s mu a mt → CalledBy (upTo g eac3) s m a mt
-  begun-answer x a mt h = subst (λ (y : Room). CalledBy (upTo g eac3) s y a mt) (o .goes x .left) h
+  pub begun-answer : c .stopped ≡ false → (a : Answer) (mt : Room) → ReadBy (upTo g eac3) s mu a mt → ReadBy (upTo g eac3) s m a mt
+  begun-answer x a mt h = subst (λ (y : Room). ReadBy (upTo g eac3) s y a mt) (o .goes x .left) h

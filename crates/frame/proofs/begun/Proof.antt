@@ -5,9 +5,9 @@ use Rattle.syntax.proofs.Rooms.{least-fills}
 use Rattle.walk.proofs.Walks.{turned-once}
 use Rattle.annex.specs.Annex.{header}
 use Rattle.annex.specs.Frame.{start}
-use Rattle.eac3.proofs.Parts.{right-start, kept-fills, small-size, begins-good, whole-answer}
-use Rattle.eac3.proofs.begun.Statement.{statement}
-use Rattle.eac3.proofs.begun.Tie as tie
+use Rattle.frame.proofs.Parts.{right-start, kept-fills, small-size, begins-good, whole-answer}
+use Rattle.frame.proofs.begun.Statement.{statement}
+use Rattle.frame.proofs.begun.Tie as tie
 
 each-requires : tie.Need-each-requires
 unfolding start

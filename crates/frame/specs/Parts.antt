@@ -1,10 +1,10 @@
--- What the parts of the entry tell, in the terms of the definition of a frame (reading/specs/Frame.antt).
+-- What the parts of a frame tell, in the terms of the definition of a frame (reading/specs/Frame.antt).
 use mathlib.Core.Path.{_≡_}
 use mathlib.Core.Bool.{false, cond}
 use mathlib.Core.List.{List}
 use Prim.Native.Nat.{ℕ, _-_, _<_}
 use Rattle.reading.specs.Run.{refused, Outcome, after}
-use Rattle.reading.specs.Frame.{headed}
+use Rattle.reading.specs.Frame.{Format, headed, parse}
 use Rattle.reading.specs.Room.{Room, size, cut, Out, got, into}
 use Rattle.short_frames.specs.Tested.{tested}
 use Rattle.syntax.specs.Records.{outcome}
@@ -16,6 +16,8 @@ use Rattle.cells.specs.Cells.{State, state, cellOf}
 use Rattle.cells.specs.Names.{FRMSIZ}
 use Rattle.annex.specs.Frame.{eac3}
 use Rattle.annex.specs.Table.{Annexed}
+use Rattle.answer.specs.Answer.{answerOf}
+use Rattle.answer.specs.declared.Answer.{Answer}
 
 -- an outcome, at the room from the count n on
 abbrev pub placed : ℕ → Room → Outcome State → Out State
@@ -40,3 +42,12 @@ pub record Framed (greatest : ℕ) (s : List ℕ) (c : Cursor) (st : State) (m :
 -- a slice of 6 bytes or more
 unfoldable pub readOf : ℕ → List ℕ → Outcome State
 readOf greatest s = after (headed eac3 s) (tested greatest eac3 s)
+
+-- a buffer read into the room: the definition's outcome, cut at it
+abbrev pub readBy : Format State State → List ℕ → Room → Out State
+readBy F s m = into 0 m (cut (size m) (parse F s))
+
+-- what is then told: the answer, and the room
+pub record ReadBy (F : Format State State) (s : List ℕ) (m : Room) (a : Answer) (m′ : Room) : Type 0 where
+  pub answer : a ≡ answerOf (readBy F s m)
+  pub left : m′ ≡ readBy F s m .left

@@ -7,9 +7,9 @@ use Rattle.walk.proofs.Walks.{turned-once}
 use Rattle.annex.specs.Annex.{body}
 use Rattle.annex.specs.Tail.{tail}
 use Rattle.short_frames.proofs.Sizes.{fit-bounds}
-use Rattle.eac3.proofs.Parts.{stays, unfit-stops, body-stops, tail-follows, tail-outcome}
-use Rattle.eac3.proofs.framed.Statement.{statement}
-use Rattle.eac3.proofs.framed.Tie as tie
+use Rattle.frame.proofs.Parts.{stays, unfit-stops, body-stops, tail-follows, tail-outcome}
+use Rattle.frame.proofs.framed.Statement.{statement}
+use Rattle.frame.proofs.framed.Tie as tie
 
 returns : tie.Need-returns
 returns c = record { bins = _; is = stays _ _ _ _ (c .if1 .taken) }

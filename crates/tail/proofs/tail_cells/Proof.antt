@@ -2,8 +2,8 @@ use mathlib.Core.Path.{refl}
 use native.Mathlib.Omega.{arith}
 use borrow.Author.Needs.{needs}
 use Rattle.annex.specs.Frame.{start}
-use Rattle.eac3.proofs.tail_cells.Statement.{statement}
-use Rattle.eac3.proofs.tail_cells.Tie as tie
+use Rattle.tail.proofs.tail_cells.Statement.{statement}
+use Rattle.tail.proofs.tail_cells.Tie as tie
 
 bits-at-requires : tie.Need-bits-at-requires
 bits-at-requires c κs = (omega arith, omega (arith, c .earlier .ensures, c .before .before .before .before .before .before .pre .0, c .before .before .before .before .before .before .pre .1))
