@@ -1,12 +1,12 @@
 -- Laws of the allocation of a block: the parts that go into it, and slot by slot. Assumes nothing.
 use mathlib.Core.Path.{_≡_, refl, ap, sym, _∙_}
-use mathlib.Core.Bool.{Bool, true, false, _&&_, _||_, not, cond}
+use mathlib.Core.Bool.{Bool, true, false, _&&_, cond}
 use mathlib.Core.List.{List, _++_}
 use mathlib.Core.Logic.{by-cases}
 use Prim.Native.Nat.{ℕ, zero, suc, _+_, _-_, _*_, _≤_, _<_, min}
 use native.Mathlib.Omega.{arith}
 use native.Mathlib.Decide.{ℕ-discrete, decLt}
-use lib.Dec.{eqb, leb, ltb}
+use lib.Dec.{leb, ltb}
 use lib.ListN.{length, getD, take, drop, replicate, length-append, length-drop, List·getD-append}
 use lib.Seq.{ext-getD, length-take-le, getD-take, getD-drop, getD-append-add}
 use Rattle.alloc.specs.Allocation.{tab, pointer, allocation, deltaed}
@@ -18,8 +18,8 @@ use Rattle.alloc.specs.declared.Deltas.{Deltas}
 use Rattle.alloc.specs.declared.Leak.{Leak}
 use Rattle.alloc.specs.declared.Pointers.{Pointers}
 use Rattle.slots.specs.Held.{Held}
-use Rattle.slots.specs.Slots.{usedOf, requestedOf}
-use Rattle.allocation.specs.State.{eightOf, segmentsBy, segmentsOf, Alike, offsetsZero, silentOf, channelOf, leakFor, kindOf, expsIn, pointedOf, pointersOf, pointSlot, pointSlots, paramsFor, allocated, bySent, allocatedOf}
+use Rattle.slots.specs.Slots.{requestedOf}
+use Rattle.allocation.specs.State.{eightOf, segmentsBy, segmentsOf, Alike, silentOf, channelOf, leakFor, kindOf, expsIn, pointedOf, pointersOf, pointSlot, pointSlots, paramsFor, allocated, bySent, allocatedOf}
 use Rattle.allocation.specs.Coded.{silenced}
 use Rattle.slots.specs.declared.Shape.{Shape}
 use Rattle.allocation.specs.declared.AllocState.{AllocState}
@@ -129,28 +129,6 @@ no-deltas k x c p l d d′ e f = rw (e, f)
 
 pub allocation-alike : (k : Pointers) (x : List ℕ) (c : Channel) (p : Params) (l : Leak) (d d′ : Deltas) → Alike d d′ → allocation k x c p l d ≡ allocation k x c p l d′
 allocation-alike k x c p l d d′ a = by-cases (ℕ-discrete (d .n) 0) (λ q. no-deltas k x c p l d d′ q (sym (a .many) ∙ q)) (λ q. ap (λ y. allocation k x c p l y) (a .rest q))
-
--- the silence test, the slots before `slot` passed
-and-assoc : (a b c : Bool) → a && (b && c) ≡ (a && b) && c
-and-assoc true b c = refl
-and-assoc false b c = refl
-
-module _ (st : AllocState) (shape : Shape) (slot : ℕ) (all : Bool) (so : silentOf st shape ≡ all && offsetsZero st shape slot (7 - slot)) where
-  pub silent-end : 7 ≤ slot → all ≡ silentOf st shape
-  unfolding offsetsZero
-  silent-end h = let e : 7 - slot ≡ 0 = omega arith in sym (so ∙ rw e (last all))
-    where
-      last : (a : Bool) → a && true ≡ a
-      last true = refl
-      last false = refl
-
-  pub silent-on : slot < 7 → (r : Bool) → r ≡ usedOf shape slot → (q : Bool) → q ≡ not r || eqb (getD (st .fsnroffst) slot 0) 0 → (a : Bool) → a ≡ all && q
-      → silentOf st shape ≡ a && offsetsZero st shape (slot + 1) (7 - (slot + 1))
-  unfolding offsetsZero
-  silent-on h r c q d a e =
-      let f : 7 - slot ≡ suc (7 - (slot + 1)) = omega arith in
-      let g : slot + 1 ≡ suc slot = omega arith in
-      so ∙ rw (f, e, d, c, ← g) (and-assoc all (not (usedOf shape slot) || eqb (getD (st .fsnroffst) slot 0) 0) (offsetsZero st shape (slot + 1) (7 - (slot + 1))))
 
 -- the pointers of a slot
 module _ (st : AllocState) (p : Params) (shape : Shape) (d : Segments) (exps : List ℕ) (slot : ℕ) where

@@ -1,6 +1,6 @@
 -- The state of bit allocation and the pointers of a block (A/52 clause 7.2.2.1, TS 102 366 clause 6.2.2.1; deltas: 7.2.2.6 and 6.2.2.6).
 use mathlib.Core.Path.{_≡_}
-use mathlib.Core.Bool.{Bool, true, false, _&&_, _||_, not, cond}
+use mathlib.Core.Bool.{Bool, false, cond}
 use mathlib.Core.List.{List, [], _∷_, _++_}
 use Prim.Native.Nat.{ℕ, zero, suc, _+_, _*_, _-_, min}
 use lib.Dec.{eqb, ltb}
@@ -15,8 +15,9 @@ use Rattle.alloc.specs.declared.Leak.the-variants.{Absent, Pair}
 use Rattle.alloc.specs.declared.Pointers.{Pointers}
 use Rattle.alloc.specs.declared.Pointers.the-variants.{Bap, Hebap}
 use Rattle.slots.specs.Slots.{CPL, LFE}
-use Rattle.slots.specs.Slots.{rangeOf, usedOf, requestedOf}
+use Rattle.slots.specs.Slots.{rangeOf, requestedOf}
 use Rattle.slots.specs.declared.Shape.{Shape}
+use Rattle.silence.specs.Silence.{silentBy}
 use Rattle.allocation.specs.declared.Codes.{Codes}
 use Rattle.allocation.specs.declared.Parameters.{Parameters}
 use Rattle.allocation.specs.declared.Parameters.the-variants.{NeverSent, Sent}
@@ -62,13 +63,9 @@ pub record Alike (a b : Deltas) : Type 0 where
   pub many : a .n ≡ b .n
   pub rest : (a .n ≡ 0 → ⊥) → a ≡ b
 
--- 7.2.2.1: where csnroffst and the fsnroffst of every slot in use are 0, all pointers are 0. A slot of the adaptive hybrid transform that was read before is in use.
-unfoldable pub offsetsZero : AllocState → Shape → ℕ → ℕ → Bool
-offsetsZero st shape slot zero = true
-offsetsZero st shape slot (suc n) = (not (usedOf shape slot) || eqb (getD (st .fsnroffst) slot 0) 0) && offsetsZero st shape (suc slot) n
-
-unfoldable pub silentOf : AllocState → Shape → Bool
-silentOf st shape = eqb (st .csnroffst) 0 && offsetsZero st shape 0 7
+-- whether all pointers of a block are 0
+abbrev pub silentOf : AllocState → Shape → Bool
+silentOf st shape = silentBy (st .csnroffst) (st .fsnroffst) shape
 
 -- the parameters of a slot's allocation: only the coupling channel starts with leaks
 unfoldable pub channelOf : AllocState → Shape → ℕ → Channel

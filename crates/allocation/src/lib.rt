@@ -10,18 +10,17 @@ use alloc::Leak;
 use alloc::Params;
 use alloc::Pointers;
 use mantissas::tally::shares;
+use silence::silent;
 use slots::CPL;
 use slots::LFE;
 use slots::Shape;
 use slots::hybrid;
 use slots::range_at;
 use slots::requested;
-use slots::used;
 ghost use mathlib.Core.Path.{_≡_};
-ghost use mathlib.Core.Bool.{_&&_, _||_, not, cond};
+ghost use mathlib.Core.Bool.{_&&_, cond};
 ghost use mathlib.Core.List.{[], _∷_};
 ghost use Prim.Native.Nat.{_*_, _-_, _/_, _%_, _<_, _≤_, min};
-ghost use lib.Dec.{eqb};
 ghost use lib.ListN.{length};
 ghost use Rattle.alloc.specs.Allocation.{tab};
 ghost use Rattle.alloc.specs.Premises.{Lent};
@@ -111,30 +110,10 @@ fn word_at(xs: &[u8; 48], slot: u8) -> u64
     )
 }
 
-fn no_offset(used: bool, fsnroffst: u8) -> bool
-    ensures { λ r. ⌜ r ≡ not used || eqb fsnroffst 0 ⌝ }
-{
-    !used || fsnroffst == 0
-}
-
 fn both(a: bool, b: bool) -> bool
     ensures { λ r. ⌜ r ≡ a && b ⌝ }
 {
     a && b
-}
-
-// Whether the coarse offset and the fine offsets of all slots in use are 0.
-fn silent(st: AllocState, shape: Shape) -> bool
-    ensures { λ r. ⌜ r ≡ silentOf st shape ⌝ }
-{
-    let mut all = st.csnroffst == 0;
-    let mut slot: u8 = 0;
-    while slot < 7 {
-        let i = slot as usize;
-        all = both(all, no_offset(used(shape, slot), st.fsnroffst[i]));
-        slot += 1;
-    }
-    all
 }
 
 fn kind_code(hybrid: bool) -> u8
@@ -189,7 +168,8 @@ fn own_at(st: AllocState, shape: Shape, silent: bool, many: u8, slot: u8) -> u64
 fn own_words(st: AllocState, shape: Shape, n: &[u8; 6]) -> [u64; 7]
     ensures { λ r. ⌜ Owns r st shape (now (n .entry)) ⌝ }
 {
-    let silent = silent(st, shape);
+    let fsnroffst = st.fsnroffst;
+    let silent = silent(st.csnroffst, fsnroffst, shape);
     [
         own_at(st, shape, silent, n[0], 0),
         own_at(st, shape, silent, n[1], 1),

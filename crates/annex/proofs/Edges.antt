@@ -13,7 +13,8 @@ use Rattle.slots.specs.Slots.{pointer, rangeOf, usedOf, readOf, requestedOf}
 use Rattle.exponents.specs.Exponents.{nextOf, decodeOf, sizeOf, groupsOf, startOf, firstOf, putOf, spreadOf, laidOf}
 use Rattle.exponents.specs.Set.{groupsFrom, begunOf, setOf}
 use Rattle.alloc.specs.Allocation.{snroffset, sum, bndpsd, counter, deltaed}
-use Rattle.allocation.specs.State.{freshState, segmentsOf, offsetsZero, silentOf, channelOf, leakFor, kindOf, pointedOf, allocatedOf, pointSlots, pointSlot, pointersOf}
+use Rattle.silence.specs.Silence.{offsetsZero, silentBy}
+use Rattle.allocation.specs.State.{freshState, segmentsOf, channelOf, leakFor, kindOf, pointedOf, allocatedOf, pointSlots, pointSlot, pointersOf}
 use Rattle.skim.specs.Counted.{counting}
 use Rattle.mantissas.specs.Mantissas.{widthOf, countedOf, conventionalOf}
 use Rattle.hybrid.specs.Hybrid.{activeOf, activeIn, singlesOf, triplesOf, gainsOf, premantissaOf, premantissasOf, binOf, binsOf, ahtOf}
@@ -36,5 +37,5 @@ use Rattle.plan.specs.Plan.{mantissasOf, slotsOf, visitIf, visitOf}
 use Rattle.annex.specs.Edges.{Edge, edges}
 
 pub edges-hold : map (λ (e : Edge). e .gives) edges ≡ map (λ (e : Edge). e .is) edges
-unfolding bitAt bitsAt getOf _>>=_ _>>-_ after skim run cellOf putIn putsIn counting among _⧺_ turns filled item meaning slowdec fastdec slowgain dbpbtab floortab fastgain bndend masktab latab hth baptab hebaptab nfchans bapBits vqBits gaqBits frmexpstr defcplbndstrc defspxbndstrc bandOf pointer rangeOf usedOf readOf requestedOf nextOf decodeOf sizeOf groupsOf startOf firstOf putOf spreadOf laidOf groupsFrom begunOf setOf snroffset sum bndpsd counter deltaed freshState segmentsOf offsetsZero silentOf channelOf leakFor kindOf pointedOf allocatedOf widthOf countedOf conventionalOf activeOf activeIn singlesOf triplesOf gainsOf premantissaOf premantissasOf binOf binsOf ahtOf sumOf eachOf tabOf numblksBy nfchansBy ncplblksBy cplStrategiesBy chStrategiesBy regionsBy blkstrtinfoBy spxRangeBy nspxbndsBy cplRangeBy ncplbndBy nrematbdBy cplBinsBy endmantOf unknownOf unknownIn endmantsBy ahtReadBy strategyOf startOf-derivations endOf exponentsOf mantissasIn putState freshBy defaultsBy allocateIn endmantsIn derived syncinfo bsi-size mixdef3 mixing-metadata informational-metadata bsi flags coupling strategies hybrid offsets audfrm dynamics spx-strategy spx-coordinates cpl-strategy cpl-coordinates rematrixing bandwidth exponents-of-block parameters deltas skip-field quantized audblk audblks body start eac3 pointSlots pointSlot pointersOf headerBy framed sized parse finish tail cut mantissasOf slotsOf visitIf visitOf edges
+unfolding bitAt bitsAt getOf _>>=_ _>>-_ after skim run cellOf putIn putsIn counting among _⧺_ turns filled item meaning slowdec fastdec slowgain dbpbtab floortab fastgain bndend masktab latab hth baptab hebaptab nfchans bapBits vqBits gaqBits frmexpstr defcplbndstrc defspxbndstrc bandOf pointer rangeOf usedOf readOf requestedOf nextOf decodeOf sizeOf groupsOf startOf firstOf putOf spreadOf laidOf groupsFrom begunOf setOf snroffset sum bndpsd counter deltaed freshState segmentsOf offsetsZero silentBy channelOf leakFor kindOf pointedOf allocatedOf widthOf countedOf conventionalOf activeOf activeIn singlesOf triplesOf gainsOf premantissaOf premantissasOf binOf binsOf ahtOf sumOf eachOf tabOf numblksBy nfchansBy ncplblksBy cplStrategiesBy chStrategiesBy regionsBy blkstrtinfoBy spxRangeBy nspxbndsBy cplRangeBy ncplbndBy nrematbdBy cplBinsBy endmantOf unknownOf unknownIn endmantsBy ahtReadBy strategyOf startOf-derivations endOf exponentsOf mantissasIn putState freshBy defaultsBy allocateIn endmantsIn derived syncinfo bsi-size mixdef3 mixing-metadata informational-metadata bsi flags coupling strategies hybrid offsets audfrm dynamics spx-strategy spx-coordinates cpl-strategy cpl-coordinates rematrixing bandwidth exponents-of-block parameters deltas skip-field quantized audblk audblks body start eac3 pointSlots pointSlot pointersOf headerBy framed sized parse finish tail cut mantissasOf slotsOf visitIf visitOf edges
 edges-hold = refl

@@ -1,7 +1,7 @@
 use mathlib.Core.Path.{_≡_, refl}
 use borrow.Author.Needs.{needs}
-use Rattle.allocation.proofs.no_offset.Statement.{statement}
-use Rattle.allocation.proofs.no_offset.Tie as tie
+use Rattle.silence.proofs.no_offset.Statement.{statement}
+use Rattle.silence.proofs.no_offset.Tie as tie
 
 returns-2 : tie.Need-returns-2
 returns-2 c = rw (c .if1 .left)
