@@ -7,7 +7,6 @@ use native.Mathlib.Omega.{arith}
 use native.Mathlib.Decide.{decLe, ℕ-discrete}
 use native.Mathlib.Numerals.{add-one}
 use lib.Dec.{leb, ltb, eqb}
-use lib.ListN.{set}
 use lib.IntN.{ℤ, pos, negsuc}
 use mir.Val.{SFits, toZ, ofZ}
 use mir.Syntax.{w8, w16}
@@ -16,10 +15,9 @@ use borrow.Author.Tests.{le-leb, lt-leb, lt-ltb, le-ltb, ltb-false, eq-eqb, ne-e
 use Rattle.bits.specs.Bits.{bitsAt}
 use Rattle.reading.specs.Tree.{Part, Tree, done, _>>=_}
 use Rattle.reading.specs.Run.{Field, fieldOf, Result, accepted, refused, Outcome, skim}
-use Rattle.reading.specs.Room.{Room, room, size, pushed, Out, got, record-in, skimmed-by, exec}
+use Rattle.reading.specs.Room.{Room, size, pushed, Out, got, record-in, skimmed-by, exec}
 use Rattle.reading.proofs.Rooms.{go-on, _then_, exec-bind}
-use Rattle.syntax.specs.Records.{part, outcome, goingAt, haltedAt}
-use Rattle.syntax.specs.Rooms.{Fills}
+use Rattle.syntax.specs.Records.{part, outcome}
 use Rattle.syntax.specs.declared.Cursor.{Cursor}
 use Rattle.slots.specs.Held.{Bins, bins}
 use Rattle.exponents.specs.Set.{setOf}
@@ -28,14 +26,15 @@ use Rattle.plan.specs.Taken.{taken}
 use Rattle.plan.specs.declared.Taken.{Taken}
 use Rattle.allocation.specs.Memo.{staleOf}
 use Rattle.allocation.proofs.MemoLaws.{memo-stale}
-use Rattle.cells.specs.Cells.{State, state, cellOf, putIn, placeOf, sumOf, stored, storedAll, putsIn, signed, partOf}
+use Rattle.cells.specs.Cells.{State, state, cellOf, placeOf, sumOf, stored, storedAll, putsIn, signed, partOf}
 use Rattle.cells.specs.Names.{ABSEXP, BLOCK}
 use Rattle.derivations.specs.Sets.{strategyOf, startOf, endOf, exponentsOf}
 use Rattle.derivations.specs.Mantissas.{mantissasIn}
 use Rattle.rows.specs.Rows.{nameIn, widthIn, indexIn, keepIn, regionIn, slotIn}
 use Rattle.rows.specs.Steps.{inputIn, setIn}
-use Rattle.inputs.specs.Reads.{Right, looked, bitsOf, passedOf, passedBy, recorded, Keeps, Looks, Sees, Takes, Gathers, setBy}
-use Rattle.inputs.specs.declared.Look.{Look}
+use Rattle.inputs.specs.Reads.{Right, bitsOf, passedOf, passedBy, Looks, Sees, Takes, Gathers, setBy}
+use Rattle.recording.specs.Recorded.{looked, recorded, Keeps}
+use Rattle.recording.specs.declared.Look.{Look}
 use Rattle.inputs.specs.declared.Set.{Set}
 
 -- bits that are passed over, and bits that are read
@@ -81,21 +80,6 @@ module _ (s : List ℕ) (l w : ℕ) (st : State) (p : ℕ) (x : Look) where
   looks-span h n d ed ex = record {
     is = λ q m. rw (le-ltb _ _ h, lt-ltb _ _ n, ex, ed) (test (p + cellOf (st .cells) (regionIn w)) l _ _ ∙ found (ltb l (p + cellOf (st .cells) (regionIn w))) (cellOf (st .cells) (regionIn w)) 0 q m);
   }
-
--- recorded and stored
-module _ (w : ℕ) (cells : List ℕ) (p q : ℕ) (m : Room) (x : Look) where
-  pub keeps-missed : ¬ (x .number ≡ 0) → (c : Cursor) → c ≡ haltedAt (x .place .0) q (x .number) → Keeps w x cells p q m c cells m
-  keeps-missed h c e = record { is = λ b. rw (e, ne-eqb _ _ h) refl }
-
-  module _ (h : x .number ≡ 0) (most : ℕ) (fills : Fills most m) where
-    pub keeps-full : most ≤ q → (c : Cursor) → c ≡ haltedAt p q 33 → Keeps w x cells p q m c cells m
-    keeps-full k c e = record { is = λ b. rw (e, eq-eqb _ _ h, fills .is, le-leb _ _ k) refl }
-
-    pub keeps-made : q < most → (name : ℕ) → name ≡ nameIn w → (a : ℕ) → a ≡ cellOf cells BLOCK → (bl : ℤ) → bl ≡ signed 128 a → (z : ℕ) → z ≡ sumOf (indexIn w) cells → (ix : ℤ) → ix ≡ signed 32768 z
-        → (k : ℕ) → k ≡ placeOf (keepIn w) cells → (y : List ℕ) → y ≡ putIn cells k (x .stored) → (c : Cursor) → c ≡ goingAt (x .place .0) (q + 1)
-        → Keeps w x cells p q m c y (room (set (m .names) q name) (set (m .blocks) q bl) (set (m .indexes) q ix) (set (m .firsts) q p) (set (m .widths) q (x .width)) (set (m .values) q (x .value)))
-    unfolding pushed
-    keeps-made g name en a ea bl eb z ez ix ei k ek y ey c ec = record { is = λ b. rw (ec, ey, en, eb, ea, ei, ez, ek, eq-eqb _ _ h, fills .is, lt-leb _ _ g) refl }
 
 -- the parts of a record are small
 block-fits : (n : ℕ) → SFits w8 (signed 128 n)

@@ -6,20 +6,20 @@ use mathlib.Core.Path.{_≡_}
 use lib.Dec.{ltb, eqb}
 use lib.ListN.{length}
 use Rattle.bits.specs.Bits.{bitsAt}
-use Rattle.reading.specs.Run.{accepted, refused, fieldOf}
-use Rattle.reading.specs.Room.{Room, Out, got, record-in, exec}
+use Rattle.reading.specs.Room.{Room, exec}
 use Rattle.syntax.specs.Records.{outcome}
 use Rattle.syntax.specs.Rooms.{Fills}
 use Rattle.syntax.specs.declared.Cursor.{Cursor}
 use Rattle.slots.specs.Held.{Bins, Held}
 use Rattle.plan.specs.declared.Taken.{Taken}
 use Rattle.allocation.specs.Memo.{Memo}
-use Rattle.cells.specs.Cells.{State, state, cellOf, placeOf, sumOf, stored, signed, partOf}
+use Rattle.cells.specs.Cells.{State, state, cellOf, sumOf, signed}
 use Rattle.cells.specs.Names.{ABSEXP, BLOCK}
 use Rattle.derivations.specs.Sets.{strategyOf, startOf, endOf}
-use Rattle.rows.specs.Rows.{nameIn, indexIn, keepIn, slotIn, widthIn}
+use Rattle.rows.specs.Rows.{nameIn, indexIn, slotIn, widthIn}
 use Rattle.rows.specs.Steps.{inputIn, setIn}
-use Rattle.inputs.specs.declared.Look.{Look}
+use Rattle.recording.specs.Recorded.{looked, recorded}
+use Rattle.recording.specs.declared.Look.{Look}
 use Rattle.inputs.specs.declared.Set.{Set}
 
 -- no element is too wide, and the frame ends within the data
@@ -31,10 +31,6 @@ pub record Ready (s : List ℕ) (l w most : ℕ) (m : Room) : Type 0 where
   pub wide : Wide s l w
   pub fills : Fills most m
 
--- what a row of input finds: 0 with the place after it, its width, the value that is recorded and the value that is stored; or a refusal and its place
-abbrev pub looked : ℕ → ℕ → ℕ → ℕ → ℕ → Look
-looked n e w v k = record { number = n; place = record { 0 = e }; width = w; value = v; stored = k }
-
 -- bits that are read, and bits that are passed over
 abbrev pub bitsOf : List ℕ → ℕ → ℕ → ℕ → Look
 bitsOf s l p w = cond (ltb l (p + w)) (looked 8 p 0 0 0) (looked 0 (p + w) w (bitsAt s p w) (bitsAt s p w))
@@ -45,18 +41,6 @@ passedOf l p w = cond (ltb l (p + w)) (looked 8 p 0 0 0) (looked 0 (p + w) w 0 0
 -- the mantissas of the block, from the place p on: a span, and the first number that their walk tells
 abbrev pub passedBy : Taken → ℕ → Look
 passedBy t p = cond (eqb (t .number) 0) (looked 0 (t .place .0) (t .place .0 - p) 0 (t .tags)) (looked (t .number) (t .place .0) 0 0 0)
-
--- what is done with it: a record is made and a value is stored, or a refusal stands
-abbrev pub recorded : ℕ → Look → State → ℕ → ℕ → Room → Out State
-recorded w x st p q m =
-    cond (eqb (x .number) 0)
-    (record-in (fieldOf (partOf (nameIn w) (indexIn w) (st .cells)) p (x .width) (x .value)) q m
-    (λ n m. got (accepted (stored st (placeOf (keepIn w) (st .cells)) (x .stored))) (x .place .0) n m))
-    (got (refused (x .number)) (x .place .0) q m)
-
--- this was done: at the place p, with q records in the room, whatever the bins are
-pub record Keeps (w : ℕ) (x : Look) (cells : List ℕ) (p q : ℕ) (m : Room) (c : Cursor) (cells′ : List ℕ) (m′ : Room) : Type 0 where
-  pub is : (b : Bins) → outcome c (state cells′ b) m′ ≡ recorded w x (state cells b) p q m
 
 -- a row of input finds this at the place p; an element or a span does, whatever the bins are
 pub record Looks (s : List ℕ) (l w : ℕ) (st : State) (p : ℕ) (x : Look) : Type 0 where

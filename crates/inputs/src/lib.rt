@@ -1,12 +1,12 @@
-// Rows that read: bits are looked at, a record is made, a value is stored.
+// Rows that read: bits are looked at, and what is found is recorded and stored.
 ghost use mathlib.Core.Path.{_≡_};
 ghost use Prim.Native.Nat.{_*_, _%_, _≤_, _<_};
 ghost use lib.ListN.{length};
 ghost use Rattle.reading.specs.Room.{room};
-ghost use Rattle.syntax.specs.Rooms.{Fills};
 ghost use Rattle.slots.specs.Held.{bins};
 ghost use Rattle.cells.specs.Cells.{state, putsIn};
-ghost use Rattle.inputs.specs.Reads.{Wide, Ready, looked, bitsOf, passedOf, passedBy, Keeps, Sees, Takes, Opens, Gathers, setBy};
+ghost use Rattle.recording.specs.Recorded.{looked};
+ghost use Rattle.inputs.specs.Reads.{Wide, Ready, bitsOf, passedOf, passedBy, Sees, Takes, Opens, Gathers, setBy};
 use allocation::memo::stale;
 use bits::BitPlace;
 use bits::bits_at;
@@ -21,6 +21,8 @@ use derivations::sets::start_of;
 use derivations::sets::strategy_of;
 use exponents::set::read_exponents;
 use plan::Taken;
+use recording::Look;
+use recording::keep;
 use rows::fields::block_part;
 use rows::fields::index_of;
 use rows::fields::index_part;
@@ -30,17 +32,6 @@ use rows::fields::slot_of;
 use rows::fields::width_of;
 use skim::between;
 use syntax::Cursor;
-use syntax::going;
-use syntax::halted;
-
-// What a row of input finds: 0 with the place after it, its width, the value that is recorded and the value that is stored; or a refusal and its place.
-pub struct Look {
-    pub number: u8,
-    pub place: BitPlace,
-    pub width: u16,
-    pub value: u32,
-    pub stored: u32,
-}
 
 fn missed(number: u8, place: BitPlace) -> Look
     ensures { λ r. ⌜ r ≡ looked number (place .0) 0 0 0 ⌝ }
@@ -116,47 +107,6 @@ fn seek(src: &[u8], cells: &[u16; 1024], at: BitPlace, limit: BitPlace, w: u64) 
         limit,
         cell_of(cells, (w / 17592186044416 % 1024) as usize),
     )
-}
-
-// What is found is recorded and stored. 33 where there is no room.
-fn keep(
-    names: &mut [u8],
-    blocks: &mut [i8],
-    indexes: &mut [i16],
-    firsts: &mut [u16],
-    widths: &mut [u16],
-    values: &mut [u32],
-    cells: &mut [u16; 1024],
-    at: BitPlace,
-    count: usize,
-    most: usize,
-    w: u64,
-    l: Look,
-) -> Cursor
-    requires { ⌜ Fills most (room (now names) (now blocks) (now indexes) (now firsts) (now widths) (now values)) ⌝ }
-    ensures { λ r. ⌜ Keeps w l (now (cells .entry)) (at .0) count (room (now (names .entry)) (now (blocks .entry)) (now (indexes .entry)) (now (firsts .entry)) (now (widths .entry)) (now (values .entry)))
-        r (now (cells .exit)) (room (now (names .exit)) (now (blocks .exit)) (now (indexes .exit)) (now (firsts .exit)) (now (widths .exit)) (now (values .exit))) ⌝ }
-{
-    let number = l.number;
-    let place = l.place;
-    let width = l.width;
-    let value = l.value;
-    let stored = l.stored;
-    if number != 0 {
-        return halted(place, count, number);
-    }
-    if most <= count {
-        return halted(at, count, 33);
-    }
-    names[count] = name_of(w);
-    blocks[count] = block_part(cell_of(cells, BLOCK));
-    indexes[count] = index_part(index_of(w, cells));
-    firsts[count] = at.0;
-    widths[count] = width;
-    values[count] = value;
-    let k = keep_of(w, cells);
-    put(cells, k, stored);
-    going(place, count + 1)
 }
 
 // What an element or a span reads, once.

@@ -1,3 +1,2 @@
 pub mod Excitation
-pub mod Shifts
-pub mod Sums
+pub mod Made

@@ -1,25 +1,21 @@
-// The masks of parametric bit allocation, from the exponents to the segments of delta bit allocation: A/52 clauses 7.2.2.2 to
-// 7.2.2.6, TS 102 366 clauses 6.2.2.2 to 6.2.2.6. On levels: see the crate `alloc`.
+// The masks of parametric bit allocation, from the powers of the bands on: A/52 clauses 7.2.2.4 to 7.2.2.6, TS 102 366
+// clauses 6.2.2.4 to 6.2.2.6. On levels: see the crate `alloc`.
 
 use alloc::Deltas;
 use alloc::Gains;
 use alloc::Leaks;
 use alloc::Levels;
 use alloc::Passed;
-use alloc::end_of;
-use alloc::index;
-use alloc::later;
 use alloc::less;
 use alloc::sooner;
-use alloc::wide;
+use segments::shift;
 ghost use mathlib.Core.Path.{_≡_};
-ghost use Prim.Native.Nat.{ℕ, _+_, _-_, _/_, _<_, _≤_, max, min};
+ghost use Prim.Native.Nat.{ℕ, _+_, _-_, _<_, _≤_, max};
 ghost use lib.ListN.{length, getD, replicate};
-ghost use Rattle.tables.specs.BitAllocation.{latab as laTab, bndend, hth as hthTab};
-ghost use Rattle.tables.specs.Bands.{bandOf};
+ghost use Rattle.tables.specs.BitAllocation.{hth as hthTab};
 ghost use Rattle.alloc.specs.Allocation.{lfeLast};
-ghost use Rattle.alloc.specs.Levels.{psdL, LogSum, stepsBelow, rangeL, lowcompL, nextLowL, decayFromL, beginL, NextL, exciteL, hearL, maskedL, deltaL, deltaedL, maskL};
-ghost use Rattle.alloc.specs.Premises.{Exponents, Written, Levelled, Gained, Leaking, Decaying, Excites};
+ghost use Rattle.alloc.specs.Levels.{lowcompL, nextLowL, decayFromL, beginL, NextL, exciteL, hearL, maskedL, maskL};
+ghost use Rattle.alloc.specs.Premises.{Written, Levelled, Gained, Leaking, Decaying, Excites};
 
 fn wide16(x: u16) -> u32
     ensures { λ r. ⌜ r ≡ x ⌝ }
@@ -31,86 +27,6 @@ fn larger(a: u32, b: u32) -> u32
     ensures { λ r. ⌜ r ≡ max a b ⌝ }
 {
     if a < b { b } else { a }
-}
-
-// The larger of two powers that lie d apart, raised as log addition says. From 510 on the table has 0.
-fn raised(latab: &[u8; 256], top: u32, d: u32) -> u32
-    requires { ⌜ (now latab ≡ laTab) × (top < 65536) ⌝ }
-    ensures { λ r. ⌜ r ≡ top + getD laTab (min (d / 2) 255) 0 ⌝ }
-{
-    if d < 510 {
-        let i = (d / 2) as usize;
-        top + wide(latab[i])
-    } else {
-        top
-    }
-}
-
-// The sum of two powers, at least the larger and at most 64 above it.
-fn logadd(latab: &[u8; 256], a: u32, b: u32) -> u32
-    requires { ⌜ (now latab ≡ laTab) × (a < 65536) × (b < 65536) ⌝ }
-    ensures { λ r. ⌜ LogSum a b r ⌝ }
-{
-    if a < b {
-        raised(latab, b, b - a)
-    } else {
-        raised(latab, a, a - b)
-    }
-}
-
-// The power of an exponent.
-fn power(e: u8) -> u32
-    requires { ⌜ e ≤ 24 ⌝ }
-    ensures { λ r. ⌜ r ≡ psdL e ⌝ }
-{
-    8192 + 3072 - 128 * wide(e)
-}
-
-// The same in steps of 32 below 3072.
-fn below(e: u8) -> u8
-    requires { ⌜ e ≤ 24 ⌝ }
-    ensures { λ r. ⌜ r ≡ stepsBelow (psdL e) ⌝ }
-{
-    4 * e
-}
-
-// The powers of the bins start .. end - 1 and the sums of their bands, in one pass: s is the sum of band k, which ends at the bin
-// `to`. The other bins keep 0, and the other bands the level of 0.
-pub fn bands(
-    latab: &[u8; 256],
-    ends: &[u8; 50],
-    exps: &[u8],
-    powers: &mut [u8; 256],
-    bnd: &mut [u32; 50],
-    start: usize,
-    end: usize,
-    first: usize,
-)
-    requires { ⌜ (now latab ≡ laTab) × (now ends ≡ bndend) × (now powers ≡ replicate 256 0) × (now bnd ≡ replicate 50 8192) ⌝ }
-    requires { ⌜ (start < end) × (end ≤ 253) × Exponents (now exps) start end × (first ≡ bandOf start) ⌝ }
-    ensures { λ r. ⌜ (now (powers .exit) ≡ rangeL (now (exps .entry)) start end .powers) × (now (bnd .exit) ≡ rangeL (now (exps .entry)) start end .sums) ⌝ }
-{
-    let o = exps[start];
-    powers[start] = below(o);
-    let mut s = power(o);
-    let mut k = first;
-    let mut to = end_of(ends, first);
-    let mut j = start + 1;
-    while j < end {
-        let e = exps[j];
-        powers[j] = below(e);
-        let p = power(e);
-        if j == to {
-            bnd[k] = s;
-            k += 1;
-            to = end_of(ends, k);
-            s = p;
-        } else {
-            s = logadd(latab, s, p);
-        }
-        j += 1;
-    }
-    bnd[k] = s;
 }
 
 // calc_lowcomp
@@ -311,19 +227,6 @@ fn hearing_at(hth: &[u16; 150], fscod: usize, b: usize) -> u32
     8192 + wide16(hth[i])
 }
 
-// A mask moved by a segment's step.
-fn moved(m: u32, ba: u8) -> u32
-    requires { ⌜ m < 16777216 ⌝ }
-    ensures { λ r. ⌜ (r ≡ deltaL m ba) × (r ≤ m + 32768) ⌝ }
-{
-    let b = wide(ba);
-    if b < 4 {
-        less(m, (4 - b) * 128)
-    } else {
-        m + (b - 3) * 128
-    }
-}
-
 // The mask of a band before the segments, from its excitation and its power.
 fn masked(hth: &[u16; 150], e: u32, p: u32, q: Levels, b: usize) -> u32
     requires { ⌜ (now hth ≡ hthTab) × (b < 50) × (e < 32768) × Levelled q ⌝ }
@@ -350,35 +253,6 @@ fn mask_bands(
         let p = bnd[b];
         out[b] = masked(hth, e, p, q, b);
         b += 1;
-    }
-}
-
-// The masks of the bands from .. to - 1, moved by a segment's step.
-fn move_bands(out: &mut [u32; 50], ba: u8, from: usize, to: usize)
-    requires { ⌜ (to ≤ 50) × ((k : ℕ) → getD (now out) k 0 < 16777216) × (length (now out) ≡ 50) ⌝ }
-    ensures { λ r. ⌜ Written (λ b. deltaL (getD (now (out .entry)) b 0) ba) from to (now (out .entry)) (now (out .exit)) × ((k : ℕ) → getD (now (out .exit)) k 0 ≤ getD (now (out .entry)) k 0 + 32768) ⌝ }
-{
-    let mut b = from;
-    while b < to {
-        let m = out[b];
-        out[b] = moved(m, ba);
-        b += 1;
-    }
-}
-
-// The masks of the bands first .. last - 1 after all segments. The counter `band` runs on from one segment to the next.
-fn shift(out: &mut [u32; 50], d: Deltas, first: usize, last: usize)
-    requires { ⌜ (last ≤ 50) × (d .n ≤ 8) × ((k : ℕ) → getD (now out) k 0 < 65536) × (length (now out) ≡ 50) ⌝ }
-    ensures { λ r. ⌜ Written (λ b. deltaedL d b (getD (now (out .entry)) b 0) (d .n)) first last (now (out .entry)) (now (out .exit)) × ((k : ℕ) → getD (now (out .exit)) k 0 < 16777216) ⌝ }
-{
-    let n = d.n;
-    let mut band = 0usize;
-    let mut i = 0usize;
-    while i < n {
-        let from = band + index(d.offset[i]);
-        band = from + index(d.len[i]);
-        move_bands(out, d.ba[i], later(first, from), sooner(last, band));
-        i += 1;
     }
 }
 

@@ -260,7 +260,7 @@ fn allocate_some(
     let last = band_of(masktab, end - 1) + 1;
     let mut bnd = [8192u32; 50];
     let mut powers = [0u8; 256];
-    masking::bands(latab, ends, exps, &mut powers, &mut bnd, start, end, first);
+    band_sums::bands(latab, ends, exps, &mut powers, &mut bnd, start, end, first);
     let mut place = [0u32; 50];
     places(hth, &bnd, &mut place, g, l, q, d, first, last);
     clear(out, 0, start);

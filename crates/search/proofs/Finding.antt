@@ -23,7 +23,7 @@ use Rattle.answer.specs.declared.Answer.{Answer}
 use Rattle.eac3.specs.Called.{answered, Called}
 use Rattle.search.specs.declared.Found.{Found}
 use Rattle.search.specs.Find.{ends, endsBy, noneNumber, noneFound, roomAfter, reading, countAfter, passed, tries, foundIn, First, NoneFound, Searched}
-use Rattle.search.specs.Passes.{Synced, Passes}
+use Rattle.positions.specs.Passes.{Synced, Passes}
 use Rattle.search.proofs.Readings.{short, unsynced, over}
 use Rattle.search.proofs.Passing.{answer-ends, none-ends, room-size, passed-more, first-is, at-first, here-found, none-found, found-here, found-none, first-words, none-words}
 

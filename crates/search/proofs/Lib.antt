@@ -1,4 +1,3 @@
-pub mod Syncs
 pub mod Readings
 pub mod Passing
 pub mod Finding

@@ -8,7 +8,7 @@ use native.Mathlib.Decide.{ℕ-discrete}
 use native.Mathlib.Nat.{add-zero, add-suc}
 use lib.Dec.{leb, eqb}
 use lib.ListN.{length, drop}
-use borrow.Author.Tests.{lt-ltb, le-ltb, le-leb, lt-leb, eq-eqb, ne-eqb}
+use borrow.Author.Tests.{lt-ltb, le-ltb, eq-eqb, ne-eqb}
 use Rattle.reading.specs.Run.{Result, accepted, refused}
 use Rattle.reading.specs.Room.{Room, size, Out}
 use Rattle.cells.specs.Cells.{State}
@@ -27,14 +27,7 @@ pub answer-ends : (o : Out State) → endsBy (answerOf o .verdict) ≡ ends (o .
 unfolding answerOf
 answer-ends o = ends-is (o .result) (o .place) (o .count)
 
--- 44 where no position is left, 45 where one is
-pub none-left : (n most : ℕ) → n ≤ most → 44 ≡ noneNumber n most
-none-left n most h = rw (le-leb n most h) refl
-
-pub some-left : (n most : ℕ) → most < n → 45 ≡ noneNumber n most
-some-left n most h = rw (lt-leb n most h) refl
-
--- they do not end it
+-- 44 and 45 do not end it
 pub none-ends : (n most count tried : ℕ) → endsBy (noneFound (noneNumber n most) count tried .answer .verdict) ≡ false
 none-ends n most count tried = go (leb n most)
   where

@@ -1,17 +1,18 @@
 // The next frame in a capture: positions are tried in order until one holds a frame.
 ghost use mathlib.Core.Path.{_≡_};
-ghost use Prim.Native.Nat.{_+_, _-_, _*_, _≤_, min};
-ghost use mathlib.Core.Bool.{cond};
-ghost use lib.Dec.{eqb, ltb};
-ghost use lib.ListN.{length};
 ghost use Rattle.reading.specs.Room.{room};
-ghost use Rattle.search.specs.Find.{endsBy, noneNumber, noneFound, Searched};
-ghost use Rattle.search.specs.Passes.{Passes};
+ghost use Rattle.search.specs.Find.{endsBy, noneFound, Searched};
 use answer::Answer;
 use answer::Verdict;
 use answer::count_of;
 use answer::refusal;
 use bits::BitPlace;
+use positions::candidate;
+use positions::furthest;
+use positions::last_count;
+use positions::less;
+use positions::none_number;
+use positions::positions;
 use syntax::halted;
 use syntax::least;
 
@@ -31,64 +32,6 @@ fn ends(v: Verdict) -> bool
         Verdict::Accepted => true,
         Verdict::Refused(number, _, _) => number == 33,
     }
-}
-
-fn less(a: usize, b: usize) -> usize
-    ensures { λ r. ⌜ r ≡ a - b ⌝ }
-{
-    if b < a { a - b } else { 0 }
-}
-
-// How many positions from a start on lie before an end, at most so many.
-fn positions(start: usize, end: usize, most: usize) -> usize
-    ensures { λ r. ⌜ r ≡ min most (end - start) ⌝ }
-{
-    let left = less(end, start);
-    if left < most { left } else { most }
-}
-
-// Whether two bytes are the sync word.
-fn sync_word(a: u8, b: u8) -> bool
-    ensures { λ r. ⌜ r ≡ eqb (a * 256 + b) 0x0B77 ⌝ }
-{
-    a == 0x0B && b == 0x77
-}
-
-// The first position with the sync word, from one to a last one; the last one if there is none.
-fn candidate(capture: &[u8], from: usize, last: usize) -> usize
-    requires { ⌜ (from ≤ last) × (last + 6 ≤ length (now capture)) ⌝ }
-    ensures { λ r. ⌜ Passes (now (capture .entry)) from last r ⌝ }
-{
-    let mut p = from;
-    while p < last {
-        if sync_word(capture[p], capture[p + 1]) {
-            return p;
-        }
-        p += 1;
-    }
-    p
-}
-
-// How far the sync word is looked for: where there is no room for a record, the reading at the first position ends the search.
-fn furthest(room: usize, from: usize, last: usize) -> usize
-    requires { ⌜ from ≤ last ⌝ }
-    ensures { λ r. ⌜ (from ≤ r) × (r ≤ last) × (room ≡ 0 → r ≡ from) ⌝ }
-{
-    if room == 0 { from } else { last }
-}
-
-// 44 where as many positions are allowed as there are, so that none is left; else 45, the allowance is used up.
-fn none_number(left: usize, most: usize) -> u8
-    ensures { λ r. ⌜ r ≡ noneNumber left most ⌝ }
-{
-    if left <= most { 44 } else { 45 }
-}
-
-// How many records the last of some readings has: none where it is one of those behind the first `whole`.
-fn last_count(whole: usize, tries: usize, count: usize) -> usize
-    ensures { λ r. ⌜ r ≡ cond (ltb whole tries) 0 count ⌝ }
-{
-    if whole < tries { 0 } else { count }
 }
 
 // The answer where no position ends the search.

@@ -1,7 +1,7 @@
 use mathlib.Core.Path.{ap, _∙_}
 use lib.ListN.{length}
 use Rattle.masking.proofs.Excitation.{excitation-low}
-use Rattle.masking.proofs.Shifts.{masks-made}
+use Rattle.masking.proofs.Made.{masks-made}
 use Rattle.masking.proofs.masks.Statement.{statement}
 use Rattle.masking.proofs.masks.Tie as tie
 

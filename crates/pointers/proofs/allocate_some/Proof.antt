@@ -3,7 +3,7 @@ use native.Mathlib.Omega.{arith}
 use Prim.Native.Nat.{_+_, _-_}
 use lib.ListN.{length}
 use Rattle.tables.proofs.Bins.{bands-rise}
-use Rattle.masking.proofs.Sums.{bands-low, bands-least, powers-size, powers-low}
+use Rattle.band_sums.proofs.Sums.{bands-low, bands-least, powers-size, powers-low}
 use Rattle.pointers.proofs.Whole.{places-most, allocated}
 use borrow.Author.Needs.{needs}
 use Rattle.pointers.proofs.allocate_some.Statement.{statement}
