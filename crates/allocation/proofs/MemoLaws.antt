@@ -30,11 +30,12 @@ use Rattle.mantissas.proofs.TallyLaws.{share-at, total-is}
 use Rattle.allocation.proofs.Unmet.{pointer-within}
 use Rattle.allocation.specs.State.{eightOf, segmentsBy, segmentsOf, Alike, silentOf, channelOf, expsIn, pointedOf, pointSlot, pointSlots, kindOf, leakFor, paramsFor}
 use Rattle.allocation.specs.Coded.{Coded}
-use Rattle.allocation.specs.Memo.{byteOf, eightIn, Packs, kindBy, startBy, endBy, channelBy, paramsBy, leakBy, deltasBy, manyBy, allocationBy, CodedBy, Owned, Owns, deltasOf, Says, sourceAt, Tallies, Memo, staleOf, Kept, Noted, pointBy, pointsBy, Passes}
+use Rattle.kept.specs.Kept.{sourceAt, staleOf, Kept, Noted}
+use Rattle.allocation.specs.Memo.{byteOf, eightIn, Packs, kindBy, startBy, endBy, channelBy, paramsBy, leakBy, deltasBy, manyBy, allocationBy, CodedBy, Owned, Owns, deltasOf, Says, Tallies, Memo, pointBy, pointsBy, Passes}
 use Rattle.allocation.specs.declared.Codes.{Codes}
 use Rattle.allocation.specs.declared.AllocState.{AllocState}
 use Rattle.allocation.specs.declared.Segments.{Segments}
-use Rattle.allocation.specs.declared.memo.Source.{Source}
+use Rattle.kept.specs.declared.Source.{Source}
 use Rattle.slots.proofs.Tests.{both}
 use Rattle.allocation.proofs.StateLaws.{allocation-alike, part-width, part-length, pointers-are, pointed-length, pointed-at, pointed-apart, pointed-there, slot-asked, slot-not-asked}
 
@@ -173,77 +174,6 @@ module _ (own common : ℕ) (offset len ba : List ℕ) (slot : ℕ) where
       → Says slot (record { own = own; common = common; offset = x; len = y; ba = z }) own common (deltasOf own offset len ba slot)
   unfolding deltasOf
   says-all x y z px py pz = record { own = refl; common = refl; segments = record { many = refl; rest = λ q. rw (packs-is _ x refl px, packs-is _ y refl py, packs-is _ z refl pz) } }
-
--- whether a slot is kept
-source-is : (s : Source) (a b c d e : ℕ) → a ≡ s .own → b ≡ s .common → c ≡ s .offset → d ≡ s .len → e ≡ s .ba
-    → _≡_ {A = Source} (record { own = a; common = b; offset = c; len = d; ba = e }) s
-source-is s a b c d e p q r t u = rw (p, q, r, t, u)
-
-pub kept-by : (memo : List ℕ) (slot : ℕ) (s : Source) (a b c d e t : Bool) → (s .own ≡ 0 → ⊥) → a ≡ eqb (getD memo (6 * slot) 0) (s .own) → b ≡ eqb (getD memo (6 * slot + 1) 0) (s .common)
-    → c ≡ eqb (getD memo (6 * slot + 2) 0) (s .offset) → d ≡ eqb (getD memo (6 * slot + 3) 0) (s .len) → e ≡ eqb (getD memo (6 * slot + 4) 0) (s .ba)
-    → t ≡ (a && b) && (c && (d && e)) → Kept t memo slot s
-kept-by memo slot s a b c d e t q ea eb ec ed ee et = record {
-  same = λ h l.
-      let x = both (a && b) (c && (d && e)) (sym et ∙ h) in
-      let y = both a b (x .0) in
-      let z = both c (d && e) (x .1) in
-      let w = both d e (z .1) in
-      source-is s _ _ _ _ _ (eqb-true _ _ (sym ea ∙ y .0)) (eqb-true _ _ (sym eb ∙ y .1)) (eqb-true _ _ (sym ec ∙ z .0)) (eqb-true _ _ (sym ed ∙ w .0)) (eqb-true _ _ (sym ee ∙ w .1));
-  asked = λ h. omega arith;
-}
-
-pub kept-none : (memo : List ℕ) (slot : ℕ) (s : Source) → s .own ≡ 0 → Kept true memo slot s
-kept-none memo slot s e = record { same = λ h l. absurd (omega arith); asked = λ h. absurd (never true false h refl refl) }
-
--- words put one after the other from the place k + i on
-abbrev put : List ℕ → ℕ → ℕ → List ℕ → List ℕ
-put m k i [] = m
-put m k i (x ∷ xs) = put (set m (k + i) x) k (suc i) xs
-
-put-length : (xs m : List ℕ) (k i : ℕ) → length (put m k i xs) ≡ length m
-put-length [] m k i = refl
-put-length (x ∷ xs) m k i = put-length xs (set m (k + i) x) k (suc i) ∙ length-set m (k + i) x
-
-put-before : (xs m : List ℕ) (k i j : ℕ) → j < k + i → getD (put m k i xs) j 0 ≡ getD m j 0
-put-before [] m k i j h = refl
-put-before (x ∷ xs) m k i j h = put-before xs (set m (k + i) x) k (suc i) j (omega arith) ∙ getD-set-other m (k + i) j x 0 (λ z. omega arith)
-
-put-after : (xs m : List ℕ) (k i j : ℕ) → k + i + length xs ≤ j → getD (put m k i xs) j 0 ≡ getD m j 0
-put-after [] m k i j h = refl
-put-after (x ∷ xs) m k i j h = put-after xs (set m (k + i) x) k (suc i) j (omega arith) ∙ getD-set-other m (k + i) j x 0 (λ z. omega arith)
-
-put-at : (xs m : List ℕ) (k i j : ℕ) → j < length xs → k + i + length xs ≤ length m → getD (put m k i xs) (k + (i + j)) 0 ≡ getD xs j 0
-put-at (x ∷ xs) m k i zero h l =
-    let e : i + 0 ≡ i = omega arith in
-    rw e (put-before xs (set m (k + i) x) k (suc i) (k + i) (omega arith) ∙ getD-set-same m (k + i) x 0 (omega arith))
-put-at (x ∷ xs) m k i (suc j) h l =
-    let e : i + suc j ≡ suc i + j = omega arith in
-    rw e (put-at xs (set m (k + i) x) k (suc i) j (omega arith) (let z = length-set m (k + i) x in omega arith))
-
-module _ (memo : List ℕ) (slot : ℕ) (s : Source) (t : ℕ) (n : length memo ≡ 42) (h : slot < 7) where
-  abbrev k : ℕ
-  k = 6 * slot
-
-  abbrev ws : List ℕ
-  ws = s .own ∷ s .common ∷ s .offset ∷ s .len ∷ s .ba ∷ t ∷ []
-
-  abbrev new : List ℕ
-  new = set (set (set (set (set (set memo k (s .own)) (k + 1) (s .common)) (k + 2) (s .offset)) (k + 3) (s .len)) (k + 4) (s .ba)) (k + 5) t
-
-  new-is : new ≡ put memo k 0 ws
-  new-is = let e : k ≡ k + 0 = omega arith in ap (λ x. put (set memo x (s .own)) k 1 (s .common ∷ s .offset ∷ s .len ∷ s .ba ∷ t ∷ [])) e
-
-  word-is : (j : ℕ) → j < 6 → getD new (k + j) 0 ≡ getD ws j 0
-  word-is j l = let e : j ≡ 0 + j = omega arith in ap (λ x. getD x (k + j) 0) new-is ∙ ap (λ x. getD (put memo k 0 ws) (k + x) 0) e ∙ put-at ws memo k 0 j l (omega arith)
-
-  pub noted-by : Noted memo new slot s t
-  noted-by = record {
-    size = ap (λ x. length x) new-is ∙ put-length ws memo k 0;
-    source = source-is s _ _ _ _ _ (ap (λ x. getD new x 0) (let e : k ≡ k + 0 = omega arith in e) ∙ word-is 0 (omega arith)) (word-is 1 (omega arith)) (word-is 2 (omega arith)) (word-is 3 (omega arith)) (word-is 4 (omega arith));
-    tally = word-is 5 (omega arith);
-    before = λ i l. ap (λ x. getD x i 0) new-is ∙ put-before ws memo k 0 i (omega arith);
-    after = λ i l. ap (λ x. getD x i 0) new-is ∙ put-after ws memo k 0 i (omega arith);
-  }
 
 -- the tally of a range looks at the pointers of that range alone
 module _ (old new : List ℕ) (slot : ℕ) (same : (k : ℕ) → k < 256 → getD new (256 * slot + k) 0 ≡ getD old (256 * slot + k) 0) where

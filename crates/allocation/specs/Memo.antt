@@ -1,10 +1,10 @@
 -- What the code keeps of the last allocation of each slot, so as to use its pointers again. The definition of a block knows nothing of it.
 use mathlib.Core.Path.{_≡_}
-use mathlib.Core.Bool.{Bool, true, false, cond}
+use mathlib.Core.Bool.{true, false, cond}
 use mathlib.Core.List.{List, [], _∷_}
 use Prim.Native.Nat.{ℕ, zero, suc, _+_, _-_, _*_, _/_, _%_, _<_, _≤_, min}
 use lib.Dec.{eqb, ltb}
-use lib.ListN.{length, getD, set}
+use lib.ListN.{length, getD}
 use Rattle.tables.specs.BitAllocation.{fastgain}
 use Rattle.alloc.specs.Allocation.{paramsOf, leakOf, allocation}
 use Rattle.alloc.specs.declared.Params.{Params}
@@ -20,7 +20,8 @@ use Rattle.mantissas.specs.Tally.{packed, tallyOf}
 use Rattle.allocation.specs.State.{eightOf, Alike, silentOf, channelOf, kindOf, expsIn, pointedOf}
 use Rattle.allocation.specs.Coded.{silenced}
 use Rattle.allocation.specs.declared.AllocState.{AllocState}
-use Rattle.allocation.specs.declared.memo.Source.{Source}
+use Rattle.kept.specs.Kept.{sourceAt}
+use Rattle.kept.specs.declared.Source.{Source}
 
 -- a byte of a word, counted from the lowest, and all eight
 unfoldable pub byteOf : ℕ → ℕ → ℕ
@@ -92,17 +93,6 @@ pub record Says (slot : ℕ) (s : Source) (w v : ℕ) (d : Deltas) : Type 0 wher
   pub common : s .common ≡ v
   pub segments : Alike (deltasBy slot s) d
 
--- six words for each of seven slots: the arguments, and the tally of the pointers
-abbrev pub sourceAt : List ℕ → ℕ → Source
-sourceAt memo slot =
-    record {
-      own = getD memo (6 * slot) 0;
-      common = getD memo (6 * slot + 1) 0;
-      offset = getD memo (6 * slot + 2) 0;
-      len = getD memo (6 * slot + 3) 0;
-      ba = getD memo (6 * slot + 4) 0;
-    }
-
 -- of a slot that is not stale the tally is that of its pointers
 pub record Tallies (memo baps : List ℕ) : Type 0 where
   pub size : length memo ≡ 42
@@ -116,23 +106,6 @@ pub record Memo (memo exps baps : List ℕ) : Type 0 where
   pub tallies : Tallies memo baps
   pub right : (slot : ℕ) → slot < 7 → 0 < getD memo (6 * slot) 0
       → (k : ℕ) → k < 256 → getD baps (256 * slot + k) 0 ≡ getD (allocationBy slot (sourceAt memo slot) (expsIn exps slot)) k 0
-
--- a slot made stale
-unfoldable pub staleOf : List ℕ → ℕ → List ℕ
-staleOf memo slot = cond (ltb slot 7) (set memo (6 * slot) 0) memo
-
--- t holds where what is kept of a slot is this, or where the slot is not asked for
-pub record Kept (t : Bool) (memo : List ℕ) (slot : ℕ) (s : Source) : Type 0 where
-  pub same : t ≡ true → 0 < s .own → sourceAt memo slot ≡ s
-  pub asked : t ≡ false → 0 < s .own
-
--- this and a tally are kept of one slot, the others as they were
-pub record Noted (old new : List ℕ) (slot : ℕ) (s : Source) (t : ℕ) : Type 0 where
-  pub size : length new ≡ length old
-  pub source : sourceAt new slot ≡ s
-  pub tally : getD new (6 * slot + 5) 0 ≡ t
-  pub before : (k : ℕ) → k < 6 * slot → getD new k 0 ≡ getD old k 0
-  pub after : (k : ℕ) → 6 * slot + 6 ≤ k → getD new k 0 ≡ getD old k 0
 
 -- the pointers of a slot by its own word and by what all slots have in common, as they are where the word is 0; those of n slots from the slot `slot` on
 module _ (common : ℕ) (offset len ba exps : List ℕ) where

@@ -1,14 +1,14 @@
 // The state of bit allocation, and the pointers of a block (A/52 clause 7.2.2.1, TS 102 366 clause 6.2.2.1).
-use crate::memo::Source;
 use crate::memo::bytes;
-use crate::memo::kept;
-use crate::memo::note;
 use crate::memo::word;
 use alloc::Channel;
 use alloc::Deltas;
 use alloc::Leak;
 use alloc::Params;
 use alloc::Pointers;
+use kept::Source;
+use kept::kept;
+use kept::note;
 use mantissas::tally::shares;
 use silence::silent;
 use slots::CPL;
@@ -18,7 +18,7 @@ use slots::hybrid;
 use slots::range_at;
 use slots::requested;
 ghost use mathlib.Core.Path.{_≡_};
-ghost use mathlib.Core.Bool.{_&&_, cond};
+ghost use mathlib.Core.Bool.{cond};
 ghost use mathlib.Core.List.{[], _∷_};
 ghost use Prim.Native.Nat.{_*_, _-_, _/_, _%_, _<_, _≤_, min};
 ghost use lib.ListN.{length};
@@ -108,12 +108,6 @@ fn word_at(xs: &[u8; 48], slot: u8) -> u64
         xs[k + 6],
         xs[k + 7],
     )
-}
-
-fn both(a: bool, b: bool) -> bool
-    ensures { λ r. ⌜ r ≡ a && b ⌝ }
-{
-    a && b
 }
 
 fn kind_code(hybrid: bool) -> u8

@@ -1,7 +1,4 @@
-// What is kept of the last allocation of each slot: six words. Five say what its pointers were computed from, but for
-// the exponents; the last is the tally of the pointers. The first word is 0 where the slot is stale: its exponents are
-// not those that its pointers were computed from.
-use crate::both;
+// The words of what is kept of the last allocation of each slot, and its tally (crate `kept`).
 use mantissas::tally::Tally;
 use mantissas::tally::fields;
 use mantissas::tally::tallied;
@@ -9,18 +6,8 @@ ghost use mathlib.Core.Path.{_≡_};
 ghost use mathlib.Core.List.{[], _∷_};
 ghost use Prim.Native.Nat.{_+_, _-_, _*_, _%_, _/_, _<_, _≤_};
 ghost use lib.Dec.{eqb};
-ghost use lib.ListN.{length};
 ghost use Rattle.mantissas.specs.Tally.{tallyOf};
-ghost use Rattle.allocation.specs.Memo.{Packs, eightIn, Kept, Noted, Tallies, staleOf};
-
-// What a slot's pointers are computed from, besides its exponents: words of eight bytes.
-pub struct Source {
-    pub own: u64,
-    pub common: u64,
-    pub offset: u64,
-    pub len: u64,
-    pub ba: u64,
-}
+ghost use Rattle.allocation.specs.Memo.{Packs, eightIn, Tallies};
 
 fn wide(x: u8) -> u64
     ensures { λ r. ⌜ (r ≡ x) × (r < 256) ⌝ }
@@ -64,48 +51,6 @@ pub fn bytes(w: u64) -> [u8; 8]
         low_byte(g),
         low_byte(h),
     ]
-}
-
-// Whether a slot is kept and was computed from this, or is not asked for.
-pub fn kept(memo: &[u64; 42], slot: usize, s: Source) -> bool
-    requires { ⌜ (length (now memo) ≡ 42) × (slot < 7) ⌝ }
-    ensures { λ r. ⌜ Kept r (now (memo .entry)) slot s ⌝ }
-{
-    if s.own == 0 {
-        return true;
-    }
-    let k = 6 * slot;
-    let own = memo[k] == s.own;
-    let common = memo[k + 1] == s.common;
-    let offset = memo[k + 2] == s.offset;
-    let len = memo[k + 3] == s.len;
-    let ba = memo[k + 4] == s.ba;
-    both(both(own, common), both(offset, both(len, ba)))
-}
-
-// Keeps it, and the tally.
-pub fn note(memo: &mut [u64; 42], slot: usize, s: Source, tally: u64)
-    requires { ⌜ (length (now memo) ≡ 42) × (slot < 7) ⌝ }
-    ensures { λ _. ⌜ Noted (now (memo .entry)) (now (memo .exit)) slot s tally ⌝ }
-{
-    let k = 6 * slot;
-    memo[k] = s.own;
-    memo[k + 1] = s.common;
-    memo[k + 2] = s.offset;
-    memo[k + 3] = s.len;
-    memo[k + 4] = s.ba;
-    memo[k + 5] = tally;
-}
-
-// New exponents: the slot is stale, if there is such a slot.
-pub fn stale(memo: &mut [u64; 42], slot: u8)
-    requires { ⌜ length (now memo) ≡ 42 ⌝ }
-    ensures { λ _. ⌜ now (memo .exit) ≡ staleOf (now (memo .entry)) slot ⌝ }
-{
-    if slot < 7 {
-        let k = 6 * (slot as usize);
-        memo[k] = 0;
-    }
 }
 
 // Whether a word says this range, of a slot that is not stale.

@@ -24,7 +24,7 @@ use Rattle.exponents.specs.Set.{setOf}
 use Rattle.exponents.specs.SetRead.{SetRead}
 use Rattle.plan.specs.Taken.{taken}
 use Rattle.plan.specs.declared.Taken.{Taken}
-use Rattle.allocation.specs.Memo.{staleOf}
+use Rattle.kept.specs.Kept.{staleOf}
 use Rattle.allocation.proofs.MemoLaws.{memo-stale}
 use Rattle.cells.specs.Cells.{State, state, cellOf, placeOf, sumOf, stored, storedAll, putsIn, signed, partOf}
 use Rattle.cells.specs.Names.{ABSEXP, BLOCK}

@@ -6,7 +6,8 @@ use mathlib.Core.List.{List}
 use lib.IntN.{ℤ}
 use Rattle.reading.specs.Run.{Outcome}
 use Rattle.reading.specs.Room.{Room, Out}
-use Rattle.syntax.specs.Records.{part, goingAt, rawOf, readOf, spanOf, closeOf}
+use Rattle.syntax.specs.Records.{part, goingAt}
+use Rattle.reads.specs.Reads.{rawOf, readOf, spanOf, closeOf}
 use Rattle.syntax.specs.declared.Cursor.{Cursor}
 
 module _ (k : Cursor) (p n : ℕ) (g : k ≡ goingAt p n) where

@@ -3,14 +3,15 @@
 // struct apart and calls the covered function of the same name with `_at`, which says the same of a slice and a place.
 // `element` makes a reader of plain parameters and reads: its callers need no proof by hand.
 use bits::BitPlace;
+use reads::Taken;
 use syntax::Cursor;
-use syntax::Taken;
 ghost use mathlib.Core.Path.{_≡_};
 ghost use mathlib.Core.Bool.{true};
 ghost use Prim.Native.Nat.{_*_, _≤_};
 ghost use lib.ListN.{length};
 ghost use Rattle.reading.specs.Room.{room};
-ghost use Rattle.syntax.specs.Records.{outcome, seen, readOf, spanOf, rawOf, closeOf};
+ghost use Rattle.syntax.specs.Records.{outcome};
+ghost use Rattle.reads.specs.Reads.{seen, readOf, spanOf, rawOf, closeOf};
 ghost use Rattle.lent.specs.Labels.{partOf};
 
 pub struct Reader<'a> {
@@ -36,7 +37,7 @@ pub fn raw_at(src: &[u8], at: BitPlace, limit: BitPlace, width: u16) -> Taken
     requires { ⌜ (width ≤ 32) × (limit .0 ≤ 8 * length (now src)) ⌝ }
     ensures { λ t. ⌜ (seen (t .cursor) (t .value) ≡ rawOf (now (src .entry)) (limit .0) width (at .0)) × (t .cursor .stopped ≡ true → t .value ≡ 0) ⌝ }
 {
-    syntax::raw(src, syntax::going(at, 0), limit, width)
+    reads::raw(src, syntax::going(at, 0), limit, width)
 }
 
 // `width` bits inside a span: read, not recorded. 8 where they pass the limit.
@@ -67,7 +68,7 @@ pub fn read_at(
         × (t .cursor .stopped ≡ true → t .value ≡ 0) ⌝ }
 {
     let cur = syntax::going(at, count);
-    syntax::read(
+    reads::read(
         src,
         names,
         blocks,
@@ -137,7 +138,7 @@ pub fn span_at(
         ≡ spanOf (now (src .entry)) (limit .0) (partOf label) width (at .0) count (room (now (names .entry)) (now (blocks .entry)) (now (indexes .entry)) (now (firsts .entry)) (now (widths .entry)) (now (values .entry))) ⌝ }
 {
     let here = syntax::going(at, count);
-    syntax::span(
+    reads::span(
         names,
         blocks,
         indexes,
@@ -204,7 +205,7 @@ pub fn close_at(
         ≡ closeOf (partOf label) (first .0) (at .0) count (room (now (names .entry)) (now (blocks .entry)) (now (indexes .entry)) (now (firsts .entry)) (now (widths .entry)) (now (values .entry))) ⌝ }
 {
     let end = syntax::going(at, count);
-    syntax::close(
+    reads::close(
         names,
         blocks,
         indexes,

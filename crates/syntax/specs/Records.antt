@@ -1,12 +1,11 @@
--- What the recording operations tell, in the terms of the definitions of crate `reading`.
+-- What the cursor and the recording leaf tell, in the terms of the definitions of crate `reading`.
 use mathlib.Core.Bool.{true, false, cond}
-use mathlib.Core.List.{List, []}
-use Prim.Native.Nat.{ℕ, _+_, _-_}
+use Prim.Native.Nat.{ℕ, _+_}
 use lib.Dec.{leb}
 use lib.IntN.{ℤ}
-use Rattle.reading.specs.Tree.{Part, stop, take, done, read, span}
-use Rattle.reading.specs.Run.{Field, fieldOf, Result, accepted, refused, Outcome, out, skim}
-use Rattle.reading.specs.Room.{Room, size, pushed, Out, got, record-in, exec}
+use Rattle.reading.specs.Tree.{Part}
+use Rattle.reading.specs.Run.{Field, Result, accepted, refused}
+use Rattle.reading.specs.Room.{Room, size, pushed, Out, got, record-in}
 use Rattle.syntax.specs.declared.Cursor.{Cursor}
 
 abbrev pub part : ℕ → ℤ → ℤ → Part
@@ -19,10 +18,6 @@ resultOf c a = cond (c .stopped) (refused (c .number)) (accepted a)
 -- a cursor, with what was read and the room then
 abbrev pub outcome : {A : Type 0} → Cursor → A → Room → Out A
 outcome c a m = got (resultOf c a) (c .at .0) (c .count) m
-
--- the same of bits inside a span, which make no record
-abbrev pub seen : {A : Type 0} → Cursor → A → Outcome A
-seen c a = out (resultOf c a) (c .at .0) []
 
 -- a cursor that goes on, and one that is stopped
 abbrev pub goingAt : ℕ → ℕ → Cursor
@@ -45,21 +40,3 @@ recordOf m n f = cond (leb (size m) n) (recorded 0 m) (recorded (n + 1) (pushed 
 -- a record put into the room, after which the reading goes on at the place next with its value
 abbrev pub keepOf : Field → ℕ → ℕ → Room → Out ℕ
 keepOf f next n m = record-in f n m (λ n m. got (accepted (f .value)) next n m)
-
--- the four operations at the place p, with n records in the room m
-module _ (s : List ℕ) (limit : ℕ) where
-  -- an element of w bits
-  abbrev pub readOf : Part → ℕ → ℕ → ℕ → Room → Out ℕ
-  readOf q w p n m = exec s limit (read q w done) p n m
-
-  -- w bits that are not looked at
-  abbrev pub spanOf : Part → ℕ → ℕ → ℕ → Room → Out ℕ
-  spanOf q w p n m = exec s limit (span q w (done 0)) p n m
-
-  -- w bits inside a span
-  abbrev pub rawOf : ℕ → ℕ → Outcome ℕ
-  rawOf w p = skim (take w stop) s p limit
-
--- a span from the place first to the place p, recorded when it closes
-abbrev pub closeOf : Part → ℕ → ℕ → ℕ → Room → Out ℕ
-closeOf q first p n m = keepOf (fieldOf q first (p - first) 0) p n m

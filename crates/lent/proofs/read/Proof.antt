@@ -36,9 +36,9 @@ use denote.Exit.{yes}
 use denote.Triple.Clauses.{Lasts, atExit}
 use Rattle.bits.proofs.BitPlace as P
 use Rattle.bits.proofs.BitPlace.Laws as P′
-use Rattle.syntax.specs.declared.Taken.{Taken}
-use Rattle.syntax.proofs.Taken as S
-use Rattle.syntax.proofs.Taken.Laws as S′
+use Rattle.reads.specs.declared.Taken.{Taken}
+use Rattle.reads.proofs.Taken as S
+use Rattle.reads.proofs.Taken.Laws as S′
 use Rattle.lent.proofs.Label as N
 use Rattle.lent.proofs.Label.Laws as N′
 use Rattle.lent.proofs.Reader as T

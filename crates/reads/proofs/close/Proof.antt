@@ -1,8 +1,8 @@
 -- The record of the span, handed on.
 use Rattle.syntax.proofs.Recording.{signed, keep-same}
 use borrow.Author.Needs.{needs}
-use Rattle.syntax.proofs.close.Statement.{statement}
-use Rattle.syntax.proofs.close.Tie as tie
+use Rattle.reads.proofs.close.Statement.{statement}
+use Rattle.reads.proofs.close.Tie as tie
 
 returns : tie.Need-returns
 returns c = keep-same _ _ _ _ _ _ (signed (c .before .before .before .before .before .before .before .before .before .before .before .before .before .before .before .before .before .before .before .before .before .before .before .before .fits .block) (c .before .before .before .before .before .before .before .before .before .before .before .before .before .before .before .before .before .before .before .before .before .before .before .before .fits .index) _ _ _ _) (c .before .before .before .before .before .before .before .before .before .before .keep .result) (c .before .before .before .before .before .before .before .before .before .before .keep .ensures)

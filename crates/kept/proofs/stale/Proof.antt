@@ -1,8 +1,8 @@
 use borrow.Author.Tests.{lt-ltb, le-ltb}
-use Rattle.allocation.specs.Memo.{staleOf}
+use Rattle.kept.specs.Kept.{staleOf}
 use borrow.Author.Needs.{needs}
-use Rattle.allocation.proofs.memo.stale.Statement.{statement}
-use Rattle.allocation.proofs.memo.stale.Tie as tie
+use Rattle.kept.proofs.stale.Statement.{statement}
+use Rattle.kept.proofs.stale.Tie as tie
 
 returns : tie.Need-returns
 unfolding staleOf

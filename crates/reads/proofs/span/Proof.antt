@@ -1,8 +1,9 @@
 -- 8 comes before the record.
-use Rattle.syntax.proofs.Recording.{span-past, span-in, signed}
+use Rattle.syntax.proofs.Recording.{signed}
+use Rattle.reads.proofs.Limits.{span-past, span-in}
 use borrow.Author.Needs.{needs}
-use Rattle.syntax.proofs.span.Statement.{statement}
-use Rattle.syntax.proofs.span.Tie as tie
+use Rattle.reads.proofs.span.Statement.{statement}
+use Rattle.reads.proofs.span.Tie as tie
 
 returns : tie.Need-returns
 returns c = λ s. span-past s _ _ _ _ _ (c .before .before .past .ensures .0) _ (c .before .if1 .taken) (c .halted .ensures) _ _

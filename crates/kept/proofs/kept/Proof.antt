@@ -1,8 +1,8 @@
 use mathlib.Core.Path.{refl, _∙_}
-use Rattle.allocation.proofs.MemoLaws.{kept-by, kept-none}
+use Rattle.kept.proofs.Laws.{kept-by, kept-none}
 use borrow.Author.Needs.{needs}
-use Rattle.allocation.proofs.memo.kept.Statement.{statement}
-use Rattle.allocation.proofs.memo.kept.Tie as tie
+use Rattle.kept.proofs.kept.Statement.{statement}
+use Rattle.kept.proofs.kept.Tie as tie
 
 returns : tie.Need-returns
 returns c = kept-none _ _ _ (c .if1 .taken)

@@ -1,8 +1,9 @@
 -- 8 comes before the record; what does not pass the limit is the bits that the definition reads, and is given where there is room.
-use Rattle.syntax.proofs.Recording.{read-past, read-in, signed}
+use Rattle.syntax.proofs.Recording.{signed}
+use Rattle.reads.proofs.Limits.{read-past, read-in}
 use borrow.Author.Needs.{needs}
-use Rattle.syntax.proofs.read.Statement.{statement}
-use Rattle.syntax.proofs.read.Tie as tie
+use Rattle.reads.proofs.read.Statement.{statement}
+use Rattle.reads.proofs.read.Tie as tie
 
 returns : tie.Need-returns
 returns c = read-past _ _ _ _ _ _ (c .before .before .past .ensures .0) _ (c .before .if1 .taken) (c .halted .ensures) _ _

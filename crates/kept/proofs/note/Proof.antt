@@ -1,7 +1,7 @@
-use Rattle.allocation.proofs.MemoLaws.{noted-by}
+use Rattle.kept.proofs.Laws.{noted-by}
 use borrow.Author.Needs.{needs}
-use Rattle.allocation.proofs.memo.note.Statement.{statement}
-use Rattle.allocation.proofs.memo.note.Tie as tie
+use Rattle.kept.proofs.note.Statement.{statement}
+use Rattle.kept.proofs.note.Tie as tie
 
 returns : tie.Need-returns
 returns c = noted-by _ _ _ _ (c .pre .0) (c .pre .1)

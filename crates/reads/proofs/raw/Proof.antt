@@ -1,8 +1,8 @@
 -- What does not pass the limit is the bits that the definition reads.
-use Rattle.syntax.proofs.Recording.{raw-past, raw-in}
+use Rattle.reads.proofs.Limits.{raw-past, raw-in}
 use borrow.Author.Needs.{needs}
-use Rattle.syntax.proofs.raw.Statement.{statement}
-use Rattle.syntax.proofs.raw.Tie as tie
+use Rattle.reads.proofs.raw.Statement.{statement}
+use Rattle.reads.proofs.raw.Tie as tie
 
 returns : tie.Need-returns
 returns c = raw-past _ _ _ _ _ _ (c .before .before .past .ensures .0) _ (c .before .if1 .taken) (c .halted .ensures)
