@@ -1,0 +1,5 @@
+pub mod Factor
+pub mod Range
+pub mod Gains
+pub mod Examples
+pub mod Parts
