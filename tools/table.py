@@ -216,4 +216,5 @@ def main(crate, *blocks):
     print(*(f"{block} ends at {end}" for block, end in zip(blocks, ends)), sep="\n", file=sys.stderr)
 
 
-main(*sys.argv[1:])
+if __name__ == "__main__":
+    main(*sys.argv[1:])

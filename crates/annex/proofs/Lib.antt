@@ -1,3 +1,4 @@
+pub mod Unkept
 pub mod Tails
 pub mod Gives
 pub mod Header

@@ -5,5 +5,6 @@ pub mod Audblk
 pub mod Annex
 pub mod Tail
 pub mod Frame
+pub mod Unkept
 pub mod Table
 pub mod Edges

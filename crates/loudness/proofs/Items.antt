@@ -1,4 +1,5 @@
--- Items that store no element with a name of a set, and have no span with such a name, mean trees that look at no value of the set. Of every syntax. Assumes nothing.
+-- Names that are kept nowhere steer nothing, of every syntax: items that keep no element with a name of a set, and have no span with such a name, mean trees that look
+-- at no value of the set. Assumes nothing.
 use mathlib.Core.Path.{_≡_, ap, sym, _∙_}
 use mathlib.Core.Bool.{Bool, true, false, not, _&&_, _||_, true≢false}
 use mathlib.Core.List.{List}
@@ -14,35 +15,12 @@ use Rattle.exponents.specs.declared.Group.the-variants.{Refused, Moved}
 use Rattle.cells.specs.Cells.{State, Addr, Sum, cellOf, stored, placeOf, sumOf}
 use Rattle.derivations.specs.Sets.{exponentsOf}
 use Rattle.derivations.specs.Derivations.{derived}
+use Rattle.rows.specs.Unkept.{nowhere, unkeptItem, unkept}
 use Rattle.rows.specs.Syntax.{Item, Block, element, elements, span, mantissas, exponents, when, each, reject, reject-at, put, fill, derive, end, _⨾_, holdsOf, countOf, turns, one, item, meaning}
 use Rattle.bounds.proofs.Cells.{cell-zero, put-zero}
 use Rattle.bounds.proofs.Bounds.{both}
 use Rattle.steers.specs.Blind.{Blind}
 use Rattle.steers.proofs.Blinds.{blind-bind, blind-choice}
-
--- stored nowhere
-abbrev nowhere : Addr → Bool
-nowhere a = eqb (a .base) 0 && (eqb (a .by) 0 && eqb (a .row) 0)
-
-module _ (N : ℕ → Bool) where
-  unfoldable mutual
-    pub blindItem : Item → Bool
-    blindItem (element name i w a) = not (N name) || nowhere a
-    blindItem (elements name i w a k f n) = not (N name) || nowhere a
-    blindItem (span name k) = not (N name)
-    blindItem (mantissas name a) = not (N name)
-    blindItem (exponents s name i) = not (N name)
-    blindItem (when c b) = blind b
-    blindItem (each k i n b) = blind b
-    blindItem (reject c n) = true
-    blindItem (reject-at c n k) = true
-    blindItem (put a v) = true
-    blindItem (fill k n x y a) = true
-    blindItem (derive k) = true
-
-    pub blind : Block → Bool
-    blind end = true
-    blind (i ⨾ b) = blindItem i && blind b
 
 place-nowhere : (a : Addr) (m : List ℕ) → nowhere a ≡ true → placeOf a m ≡ 0
 place-nowhere a m h =
@@ -87,9 +65,9 @@ module _ (N : ℕ → Bool) where
   blind-turns (suc n) i k f h st = blind-bind N (f (stored st k i)) (turns n (suc i) k f) (h (stored st k i)) (blind-turns n (suc i) k f h)
 
   mutual
-    unfolding item blind
+    unfolding item unkept
 
-    blind-item : (i : Item) → blindItem N i ≡ true → (st : State) → Blind N (item i st)
+    blind-item : (i : Item) → unkeptItem N i ≡ true → (st : State) → Blind N (item i st)
     blind-item (element name i w a) h st = blind-one name i w a h st
     blind-item (elements name i w a k f n) h st = blind-turns (cellOf (st .cells) n - f) f k (one name i w a) (blind-one name i w a h) st
     blind-item (span name k) h st = (not-true (N name) h, tt)
@@ -104,8 +82,8 @@ module _ (N : ℕ → Bool) where
     blind-item (fill k n x y a) h st = tt
     blind-item (derive k) h st = blind-choice N (eqb (derived k st .number) 0) (done (derived k st .st)) (refuse (derived k st .number)) tt tt
 
-    pub blind-block : (b : Block) → blind N b ≡ true → (st : State) → Blind N (meaning b st)
+    pub blind-block : (b : Block) → unkept N b ≡ true → (st : State) → Blind N (meaning b st)
     blind-block end h st = tt
     blind-block (i ⨾ b) h st =
-        let t = both (blindItem N i) (blind N b) h in
+        let t = both (unkeptItem N i) (unkept N b) h in
         blind-bind N (item i st) (λ x. meaning b x) (blind-item i (t .0) st) (λ x. blind-block b (t .1) x)

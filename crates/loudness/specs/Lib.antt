@@ -1,1 +1,2 @@
 pub mod Loudness
+pub mod Sixteen

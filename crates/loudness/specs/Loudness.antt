@@ -1,6 +1,7 @@
--- LOUDNESS WORDS STEER NOTHING: the six loudness words of an E-AC-3 frame (words/specs/Words), and crc2. Proved in proofs/Loudness.antt.
+-- LOUDNESS WORDS STEER NOTHING: the six loudness words of an E-AC-3 frame (words/specs/Words), and crc2. What SteersNothing and Rewrites say stands in steers/specs.
+-- Proved in proofs/Loudness.antt. What a host sees of it: demands/specs/Loudness.
 use mathlib.Core.Path.{_≡_}
-use mathlib.Core.Bool.{Bool, not, _||_}
+use mathlib.Core.Bool.{Bool, true, not, _||_}
 use mathlib.Core.List.{List}
 use Prim.Native.Nat.{ℕ}
 use lib.Dec.{eqb}
@@ -11,8 +12,13 @@ use Rattle.reading.specs.Frame.{parse}
 use Rattle.steers.specs.Steering.{SteersNothing}
 use Rattle.steers.specs.Writing.{Rewrites}
 use Rattle.annex.specs.Frame.{eac3}
+use Rattle.annex.specs.Unkept.{unkeptHere}
 
--- the names of what may change freely
+-- whatever the names: if the pages keep them nowhere, they steer nothing. Which these are: unkeptNames of annex/specs/Unkept
+abbrev pub UnkeptSteersNothing : Type 0
+UnkeptSteersNothing = (N : ℕ → Bool) → unkeptHere N ≡ true → SteersNothing N eac3 × Rewrites N eac3
+
+-- the names of the words and of crc2
 abbrev pub free : ℕ → Bool
 free n = not (eqb (widthOf n) 0) || eqb n crc2
 

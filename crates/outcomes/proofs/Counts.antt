@@ -175,7 +175,7 @@ held-most a m w = go (eqb (a .by + a .row) 0) refl
         rw (base (omega arith) (omega arith)) (w .below (a .base))
     go false e = omega (arith, w .below (placeOf a m), most-word (placeOf a m))
 
-times : (n : Count) (m : List ℕ) (i z : ℕ) → Within m → (countOf n m - i) * z ≤ timesOf n z
+pub times : (n : Count) (m : List ℕ) (i z : ℕ) → Within m → (countOf n m - i) * z ≤ timesOf n z
 times (Fixed x) m i z w = let y : (x - i) * z ≤ x * z = mul-le-mul-right z (omega arith) in omega arith
 times (Held a) m i z w = let h = held-most a m w in let y : (heldOf a m - i) * z ≤ mostAt a * z = mul-le-mul-right z (omega arith) in omega arith
 

@@ -15,9 +15,8 @@ use Rattle.reading.specs.CommonReading.{answer}
 use Rattle.reading.proofs.Laws.{Ok, test, choice}
 use Rattle.reading.proofs.Rooms.{cut-same}
 use Rattle.reading.proofs.Frames.{whole, whole-tiled}
-use Rattle.reading.proofs.Tails.{finish-ends}
 use Rattle.steers.specs.Closing.{Closes, Closing}
-use Rattle.steers.proofs.Theorem.{accepted-whole}
+use Rattle.steers.proofs.Theorem.{accepted-whole, framed-place}
 
 ruleset tests = (arith, leb→le, nleb→lt)
 
@@ -107,24 +106,6 @@ module _ {H A : Type 0} (F : Format H A) where
   abbrev Closed : List ℕ → Outcome A → Type 0
   Closed b o = Ok (o .result) → Framed b o
 
-  accepted-is : (r : Result A) → Ok r → (a : A) × (r ≡ accepted a)
-  accepted-is (accepted a) k = (a, refl)
-  accepted-is (refused n) k = absurd k
-
-  framed-place : (b : List ℕ) (h : H) (p : ℕ) → Ok (framed F b h p .result) → framed F b h p .place ≡ 8 * F .bytes h
-  unfolding framed after
-  framed-place b h p = go (o .result)
-    where
-      o : Outcome A
-      o = run (F .body h) b p (8 * F .bytes h)
-
-      f : A → ℕ → Outcome A
-      f = finish (F .names) b (8 * F .bytes h)
-
-      go : (r : Result A) → Ok (andThen r (o .place) (o .records) f .result) → andThen r (o .place) (o .records) f .place ≡ 8 * F .bytes h
-      go (accepted a) k = let c = accepted-is (f a (o .place) .result) k in finish-ends (F .names) b (8 * F .bytes h) a (c .0) (o .place) (c .1) .0
-      go (refused n) k = absurd k
-
   framed-ended : (b : List ℕ) (h : H) (p : ℕ) → Ended (F .names .crc2) (8 * F .bytes h) (framed F b h p)
   unfolding framed finish
   framed-ended b h p =
@@ -135,7 +116,7 @@ module _ {H A : Type 0} (F : Format H A) where
   unfolding sized
   sized-closed b h p =
       test (Closed b) (leb (F .bytes h) (length b))
-      (λ c k. record { bytes = F .bytes h; place = framed-place b h p k; held = leb→le (F .bytes h) (length b) c; ends = framed-ended b h p k })
+      (λ c k. record { bytes = F .bytes h; place = framed-place F b h p k; held = leb→le (F .bytes h) (length b) c; ends = framed-ended b h p k })
       (λ _. absurd)
 
   closed-after : (b : List ℕ) (o : Outcome H) (f : H → ℕ → Outcome A) → ((h : H) (p : ℕ) → Closed b (f h p)) → Closed b (after o f)

@@ -3,10 +3,11 @@ use mathlib.Core.Path.{_≡_, refl, ap, sym, _∙_, subst}
 use mathlib.Core.Bool.{Bool, true, false, cond}
 use mathlib.Core.List.{List, [], _∷_}
 use mathlib.Core.Logic.{inl, inr}
-use Prim.Native.Nat.{ℕ, _+_, _*_, _-_}
+use Prim.Native.Nat.{ℕ, _+_, _*_, _-_, _≤_}
 use native.Mathlib.Omega.{arith}
 use lib.Dec.{leb, eqb, leb→le, nleb→lt}
 use lib.ListN.{length}
+use borrow.Author.Tests.{le-leb}
 use Rattle.bits.specs.Bits.{bitsAt, SameBits}
 use Rattle.bits.proofs.BitLaws.{bitsAt-cong}
 use Rattle.reading.specs.Tree.{Tree}
@@ -18,8 +19,9 @@ use Rattle.reading.specs.CommonReading.{answer}
 use Rattle.reading.proofs.Laws.{Ok, test, choice}
 use Rattle.reading.proofs.Rooms.{cut-same}
 use Rattle.reading.proofs.Frames.{whole, whole-tiled, whole-valued}
+use Rattle.reading.proofs.Tails.{finish-ends}
 use Rattle.steers.specs.Blind.{Some, Other, BlindTo}
-use Rattle.steers.specs.Steering.{Rewritten, renewed, Named, SteersNothing}
+use Rattle.steers.specs.Steering.{Rewritten, RewrittenFrame, renewed, Named, SteersNothing}
 use Rattle.steers.proofs.Blinds.{blind-header, blind-tail}
 use Rattle.steers.proofs.Follows.{Spared, reread-all, Follows, follows-test, follows-after, run-follows}
 use Rattle.steers.proofs.Chosen.{kept-of, kept-spared, reread-kept, cut-renewed}
@@ -53,6 +55,67 @@ module _ {H A : Type 0} (F : Format H A) where
           → Ok (cond c (after (headed F b) (sized F b)) (out (refused 1) 0 []) .result) → cond c (after (headed F b) (sized F b)) (out (refused 1) 0 []) ≡ whole F b
       go true f k = f k
       go false f k = absurd k
+
+  accepted-is : (r : Result A) → Ok r → (a : A) × (r ≡ accepted a)
+  accepted-is (accepted a) k = (a, refl)
+  accepted-is (refused n) k = absurd k
+
+  -- an accepted frame ends where its bytes end
+  pub framed-place : (b : List ℕ) (h : H) (p : ℕ) → Ok (framed F b h p .result) → framed F b h p .place ≡ 8 * F .bytes h
+  unfolding framed after
+  framed-place b h p = go (o .result)
+    where
+      o : Outcome A
+      o = run (F .body h) b p (8 * F .bytes h)
+
+      f : A → ℕ → Outcome A
+      f = finish (F .names) b (8 * F .bytes h)
+
+      go : (r : Result A) → Ok (andThen r (o .place) (o .records) f .result) → andThen r (o .place) (o .records) f .place ≡ 8 * F .bytes h
+      go (accepted a) k = let c = accepted-is (f a (o .place) .result) k in finish-ends (F .names) b (8 * F .bytes h) a (c .0) (o .place) (c .1) .0
+      go (refused n) k = absurd k
+
+  -- what holds an accepted frame, and 6 bytes, is accepted
+  held-after : (b : List ℕ) → Ok (whole F b .result) → whole F b .place ≤ 8 * length b → after (headed F b) (sized F b) ≡ whole F b
+  unfolding after sized
+  held-after b = go (headed F b .result)
+    where
+      go : (r : Result H) → Ok (andThen r (headed F b .place) (headed F b .records) (framed F b) .result)
+          → andThen r (headed F b .place) (headed F b .records) (framed F b) .place ≤ 8 * length b
+          → andThen r (headed F b .place) (headed F b .records) (sized F b) ≡ andThen r (headed F b .place) (headed F b .records) (framed F b)
+      go (accepted h) k l =
+          let e = framed-place b h (headed F b .place) k in
+          let n : F .bytes h ≤ length b = omega arith in
+          rw (le-leb (F .bytes h) (length b) n) refl
+      go (refused n) k l = refl
+
+  held-whole : (b : List ℕ) → 6 ≤ length b → Ok (whole F b .result) → whole F b .place ≤ 8 * length b → parse F b ≡ whole F b
+  unfolding parse
+  held-whole b n k l = rw (le-leb 6 (length b) n) (held-after b k l)
+
+  -- and what is accepted holds them
+  abbrev Held : List ℕ → Outcome A → Type 0
+  Held b o = Ok (o .result) → (6 ≤ length b) × (o .place ≤ 8 * length b)
+
+  abbrev Fits : List ℕ → Outcome A → Type 0
+  Fits b o = Ok (o .result) → o .place ≤ 8 * length b
+
+  sized-fits : (b : List ℕ) (h : H) (p : ℕ) → Fits b (sized F b h p)
+  unfolding sized
+  sized-fits b h p =
+      test (Fits b) (leb (F .bytes h) (length b)) (λ c k. let n = leb→le (F .bytes h) (length b) c in omega (arith, framed-place b h p k)) (λ _ k. absurd k)
+
+  after-fits : (b : List ℕ) → Fits b (after (headed F b) (sized F b))
+  unfolding after
+  after-fits b = go (headed F b .result)
+    where
+      go : (r : Result H) → Fits b (andThen r (headed F b .place) (headed F b .records) (sized F b))
+      go (accepted h) = sized-fits b h (headed F b .place)
+      go (refused n) = λ k. absurd k
+
+  accepted-held : (b : List ℕ) → Held b (parse F b)
+  unfolding parse
+  accepted-held b = test (Held b) (leb 6 (length b)) (λ c k. (leb→le 6 (length b) c, after-fits b k)) (λ _ k. absurd k)
 
 module _ (N : ℕ → Bool) (x y : List ℕ) where
   -- an accepted tail has auxdatae as a record, so that the bit is the same in both
@@ -105,47 +168,59 @@ module _ (N : ℕ → Bool) (x y : List ℕ) where
   other-same (e ∷ es) f m (inl h) s i a b = s .0 (h .name) i (omega (arith, h .from)) (omega (arith, h .upto))
   other-same (e ∷ es) f m (inr h) s i a b = other-same es f m h (s .1) i a b
 
-  module _ {H A : Type 0} (F : Format H A) (blind : BlindTo N F) (long : length y ≡ length x) where
-    sized-follows : (h : H) (p : ℕ) → Follows N x y (sized F x h p) (sized F y h p)
-    unfolding sized framed
-    sized-follows h p =
-        rw long
-        (follows-test N x y (leb (F .bytes h) (length x)) 4 p
-        (follows-after N x y _ _ _ _ (run-follows N x y (F .body h) (blind .body h) p (8 * F .bytes h))
-        (finish-follows (F .names) (blind .auxbits) (blind .auxdatae) (blind .auxdatal) (8 * F .bytes h))))
+  module _ {H A : Type 0} (F : Format H A) (blind : BlindTo N F) where
+    framed-follows : (h : H) (p : ℕ) → Follows N x y (framed F x h p) (framed F y h p)
+    unfolding framed
+    framed-follows h p =
+        follows-after N x y _ _ _ _ (run-follows N x y (F .body h) (blind .body h) p (8 * F .bytes h))
+        (finish-follows (F .names) (blind .auxbits) (blind .auxdatae) (blind .auxdatal) (8 * F .bytes h))
 
     -- the reading, where the number v is seen ahead
-    parseBy : ℕ → List ℕ → Outcome A
-    parseBy v b = let r = after (run (headerBy F v) b 0 48) (sized F b) in cond (leb 6 (length b)) r (out (refused 1) 0 [])
+    wholeBy : ℕ → List ℕ → Outcome A
+    wholeBy v b = after (run (headerBy F v) b 0 48) (framed F b)
 
-    parseBy-follows : (v : ℕ) → Follows N x y (parseBy v x) (parseBy v y)
-    unfolding parseBy
-    parseBy-follows v =
-        rw long
-        (follows-test N x y (leb 6 (length x)) 1 0
-        (follows-after N x y _ _ _ _ (run-follows N x y (headerBy F v) (blind-header N F (blind .opening) (blind .rest) v) 0 48) sized-follows))
+    wholeBy-follows : (v : ℕ) → Follows N x y (wholeBy v x) (wholeBy v y)
+    unfolding wholeBy
+    wholeBy-follows v = follows-after N x y _ _ _ _ (run-follows N x y (headerBy F v) (blind-header N F (blind .opening) (blind .rest) v) 0 48) framed-follows
 
-    parse-follows : (a : A) → parse F x .result ≡ accepted a → Spared N x y (parse F x .records) → parse F y ≡ reread-all N x y (parse F x)
-    unfolding parse parseBy
-    parse-follows a e s =
+    whole-follows : (a : A) → parse F x .result ≡ accepted a → Spared N x y (parse F x .records) → whole F y ≡ reread-all N x y (parse F x)
+    unfolding wholeBy
+    whole-follows a e s =
         let b : SameBits x y (F .look .first) (behind (F .look)) = other-same (parse F x .records) (F .look .first) (behind (F .look)) (blind .look x a e) s in
         let v : seen F y ≡ seen F x = sym (bitsAt-cong x y (F .look .first) (F .look .width) b) in
-        ap (λ v. parseBy v y) v ∙ parseBy-follows (seen F x) .follows (subst Ok (sym e) tt) s
+        let u : parse F x ≡ whole F x = accepted-whole F x (subst Ok (sym e) tt) in
+        ap (λ v. wholeBy v y) v
+        ∙ wholeBy-follows (seen F x) .follows (subst (λ (o : Outcome A). Ok (o .result)) u (subst Ok (sym e) tt)) (subst (λ (o : Outcome A). Spared N x y (o .records)) u s)
+        ∙ ap (reread-all N x y) (sym u)
+
+    parse-follows : (a : A) → parse F x .result ≡ accepted a → Spared N x y (parse F x .records) → 6 ≤ length y → parse F x .place ≤ 8 * length y
+        → parse F y ≡ reread-all N x y (parse F x)
+    parse-follows a e s six h =
+        let w = whole-follows a e s in
+        held-whole F y six (subst (λ (o : Outcome A). Ok (o .result)) (sym w) (subst Ok (sym e) tt)) (subst (λ (o : Outcome A). o .place ≤ 8 * length y) (sym w) h) ∙ w
 
 module _ (N : ℕ → Bool) {H A : Type 0} (F : Format H A) (blind : BlindTo N F) where
-  parse-renewed : (C : ℕ → Entry → Bool) → Named N F C → (x y : List ℕ) (a : A) → parse F x .result ≡ accepted a → Rewritten C (parse F x) x y
+  frame-renewed : (C : ℕ → Entry → Bool) → Named N F C → (x y : List ℕ) (a : A) → parse F x .result ≡ accepted a → RewrittenFrame C (parse F x) x y
       → parse F y ≡ renewed C y (parse F x)
-  parse-renewed C named x y a e r =
+  frame-renewed C named x y a e r =
       let o = parse F x in
       let u : o ≡ whole F x = accepted-whole F x (subst Ok (sym e) tt) in
       let t = subst (λ o. Tiled 0 o) (sym u) (whole-tiled F x) in
       let w : t .upto ≡ o .place = subst (λ (z : Result A). Whole z (t .upto) (o .place)) e (t .whole) in
       let k = kept-of C x y (o .records) 0 0 (t .upto) (t .tiles) (λ i _ l h. r .elsewhere i (omega (arith, w)) h) in
-      parse-follows N x y F blind (r .long) a e (kept-spared C x y N named (o .records) 0 k)
+      parse-follows N x y F blind a e (kept-spared C x y N named (o .records) 0 k) (r .six) (r .holds)
       ∙ ap (out (o .result) (o .place)) (reread-kept C x y (o .records) 0 (subst (λ (o : Outcome A). All (Valued x) (o .records)) (sym u) (whole-valued F x)) k)
+
+  -- a buffer that is as long holds the frame
+  parse-renewed : (C : ℕ → Entry → Bool) → Named N F C → (x y : List ℕ) (a : A) → parse F x .result ≡ accepted a → Rewritten C (parse F x) x y
+      → parse F y ≡ renewed C y (parse F x)
+  parse-renewed C named x y a e r =
+      let h = accepted-held F x (subst Ok (sym e) tt) in
+      frame-renewed C named x y a e (record { six = omega (arith, r .long, h .0); holds = omega (arith, r .long, h .1); elsewhere = r .elsewhere })
 
   pub steers-nothing : SteersNothing N F
   steers-nothing = record {
+    frame = frame-renewed;
     whole = parse-renewed;
     roomed = λ C named x y n a e r.
         let u : answer F n x ≡ parse F x = cut-same n (parse F x) (λ q. let z : _≡_ {A = ℕ} 0 1 = cc in omega arith) in

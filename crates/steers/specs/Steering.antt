@@ -4,7 +4,7 @@ use mathlib.Core.Path.{_≡_}
 use mathlib.Core.Bool.{Bool, true, cond}
 use mathlib.Core.List.{List, [], _∷_}
 use mathlib.Core.Logic.{_⊎_}
-use Prim.Native.Nat.{ℕ, suc, _≤_, _<_}
+use Prim.Native.Nat.{ℕ, suc, _*_, _≤_, _<_}
 use lib.ListN.{length}
 use Rattle.bits.specs.Bits.{bitAt, bitsAt}
 use Rattle.reading.specs.Run.{Field, Entry, end, accepted, Outcome, out}
@@ -45,6 +45,12 @@ pub record Rewritten {A : Type 0} (C : ℕ → Entry → Bool) (o : Outcome A) (
   pub long : length y ≡ length x
   pub elsewhere : (i : ℕ) → i < o .place → Outside C 0 (o .records) i → bitAt x i ≡ bitAt y i
 
+-- y holds x's frame, and 6 bytes, and has the same bits in it but for those of the chosen records of its reading; behind the frame it is any
+pub record RewrittenFrame {A : Type 0} (C : ℕ → Entry → Bool) (o : Outcome A) (x y : List ℕ) : Type 0 where
+  pub six : 6 ≤ length y
+  pub holds : o .place ≤ 8 * length y
+  pub elsewhere : (i : ℕ) → i < o .place → Outside C 0 (o .records) i → bitAt x i ≡ bitAt y i
+
 -- result and place stay, and the records but for the values of the chosen ones
 abbrev pub renewed : {A : Type 0} → (ℕ → Entry → Bool) → List ℕ → Outcome A → Outcome A
 renewed C b o = out (o .result) (o .place) (rereadIn C 0 b (o .records))
@@ -55,7 +61,9 @@ module _ (N : ℕ → Bool) {H A : Type 0} (F : Format H A) where
   Named C = (k : ℕ) (e : Entry) → C k e ≡ true → N (e .field .name) ≡ true
 
   pub record SteersNothing : Type 0 where
-    -- the whole reading
+    -- the whole reading, also of slices of two lengths that hold the frame
+    pub frame : (C : ℕ → Entry → Bool) → Named C → (x y : List ℕ) (a : A) → parse F x .result ≡ accepted a → RewrittenFrame C (parse F x) x y
+        → parse F y ≡ renewed C y (parse F x)
     pub whole : (C : ℕ → Entry → Bool) → Named C → (x y : List ℕ) (a : A) → parse F x .result ≡ accepted a → Rewritten C (parse F x) x y
         → parse F y ≡ renewed C y (parse F x)
     -- with room for n records

@@ -132,7 +132,7 @@ module _ (T : ℕ → ℕ → Bool) (U : ℕ → Bool) where
     mutual
       unfolding item passes
 
-      reads-item : (i : Item) → passesIn i ≡ true → (st : State) (p : ℕ) → Reads P S (item i st) p
+      pub reads-item : (i : Item) → passesIn i ≡ true → (st : State) (p : ℕ) → Reads P S (item i st) p
       reads-item (element name i w a) h st p = (t name w h p, λ v. tt)
       reads-item (elements name i w a k f n) h st p = reads-turns P S _ f k (one name i w a) st p (λ y q. (t name w h q, λ v. tt))
       reads-item (span name k) h st p = (u name h, tt)
