@@ -53,6 +53,8 @@ pub enum Kind {
     Smallest,
     /// csnroffst 0, fine offsets above 0 in some slots alone, and pointers above 0 through fast gains and deltas.
     Faint,
+    /// Two programmes and six blocks, with all or most of the words that a frame can hold.
+    Worded,
 }
 
 /// The slots of a faint frame that have fine offsets above 0.
@@ -143,6 +145,7 @@ fn plan(r: &mut Random, kind: Kind) -> Plan {
             (p.numblkscod, p.acmod, p.lfeon, p.often, p.spx, p.cpl, p.bandwidth) = (0, 1, false, 0, 0, 0, 0);
             (p.strmtyp, p.bamode, p.dbaflde, p.skipflde, p.blkstrtinfoe, p.snroffststr) = (1, false, false, false, false, 0);
         }
+        Kind::Worded => (p.numblkscod, p.acmod, p.lfeon, p.often, p.spx, p.cpl, p.bandwidth) = (3, 0, false, r.pick(&[14, 16, 16]), 0, 0, 0),
         Kind::Faint => {
             p.loud = r.pick(&[Loud::Hybrid, Loud::Hybrid, Loud::Hybrid, Loud::Coupling, Loud::Others, Loud::None]);
             (p.numblkscod, p.snroffststr, p.often, p.bare, p.acmod) = (3, 2, 1, false, 1 + r.below(7) as u32);

@@ -1,13 +1,13 @@
 -- What the entry tells, from the reading and the rewriting. Assumes nothing.
 use mathlib.Core.Path.{_≡_, refl, sym, ap, ap₂, _∙_, subst}
 use mathlib.Core.Bool.{Bool, true, false, cond, true≢false}
-use mathlib.Core.List.{List}
-use Prim.Native.Nat.{ℕ, _-_, _<_}
+use mathlib.Core.List.{List, [], _∷_}
+use Prim.Native.Nat.{ℕ, zero, suc, _-_, _<_}
 use native.Mathlib.Omega.{arith}
-use lib.Dec.{leb, eqb}
+use lib.Dec.{eqb}
 use lib.IntN.{ℤ}
 use lib.ListN.{length, getD, set}
-use borrow.Author.Tests.{eqb-true, leb-false}
+use borrow.Author.Tests.{eqb-true}
 use Rattle.reading.specs.Room.{Room, room, size}
 use Rattle.answer.specs.Answer.{placeAt, answerOf}
 use Rattle.answer.specs.declared.Answer.{Answer}
@@ -18,12 +18,12 @@ use Rattle.steers.specs.Writing.{patched}
 use Rattle.demands.specs.Calls.{Call, recordAt, count, nth}
 use Rattle.demands.proofs.Calls.{outcome, holds}
 use Rattle.demands.proofs.Answers.{all-answer}
-use Rattle.words.specs.Words.{unfitOf}
 use Rattle.crc.specs.Crc.{crc2, withCrc2}
-use Rattle.mastering.specs.SetWord.{acceptedBy, wordNumber, worded, bytesWith, valuesWith, answerWith, WordSet}
+use Rattle.mastering.specs.SetWord.{acceptedBy, wordNumber, worded, answerWith, WordSet}
+use Rattle.mastering.specs.SetWords.{itemsOf, listed as listed-by, itemNumber, numberTo, wordsNumber, wordedTo, valuesTo, bytesTo, heldTo, WordsSet}
 use Rattle.mastering.specs.Listed.{Listed}
-use Rattle.mastering.proofs.Rewriting.{Fit, fits}
-use Rattle.mastering.proofs.Setting.{entry-at, ends, fields-are, bytes-is, long, most, in-front, set-called}
+use Rattle.mastering.proofs.Rewriting.{Fit, words-fit}
+use Rattle.mastering.proofs.Setting.{entry-at, ends, fields-are, bytes-is, long, most, some-record, in-front, word-called, crc2-called}
 
 accepted-by : (v : Verdict) → acceptedBy v ≡ true → v ≡ Accepted
 accepted-by Accepted e = refl
@@ -33,9 +33,9 @@ refused-by : (v : Verdict) → acceptedBy v ≡ false → ¬ (v ≡ Accepted)
 refused-by Accepted e q = true≢false e
 refused-by (Refused k p n) e q = let z : _≡_ {A = ℕ} 0 1 = cc in omega arith
 
-module _ (s : List ℕ) (m : Room) (i v : ℕ) {a : Answer} {m′ : Room} (c : Called s m a m′) where
+module _ (s : List ℕ) (m : Room) (places words : List ℕ) {a : Answer} {m′ : Room} (c : Called s m a m′) where
   -- the reader refuses
-  pub reader-refuses : acceptedBy (a .verdict) ≡ false → WordSet s m i v a s m′
+  pub reader-refuses : acceptedBy (a .verdict) ≡ false → WordsSet s m places words a s m′
   reader-refuses t =
       let e : acceptedBy (answerOf (answered s m) .verdict) ≡ false = ap (λ (a : Answer). acceptedBy (a .verdict)) (sym (c .answer)) ∙ t in
       record {
@@ -44,19 +44,6 @@ module _ (s : List ℕ) (m : Room) (i v : ℕ) {a : Answer} {m′ : Room} (c : C
         left = rw e (c .left);
         again = λ q. absurd (refused-by (a .verdict) t q);
       }
-
--- the number of a word that may be set: the place is in the list, and nothing else stands in the way
-record Settable (names : List ℕ) (n i v : ℕ) : Type 0 where
-  inside : i < n
-  fit : Fit (getD names i 0) v
-
-settable : (names : List ℕ) (n i v : ℕ) → 0 ≡ wordNumber names n i v → Settable names n i v
-unfolding wordNumber
-settable names n i v e = go (leb n i) refl e
-  where
-    go : (b : Bool) → leb n i ≡ b → _≡_ {A = ℕ} 0 (cond b 41 (unfitOf (getD names i 0) v)) → Settable names n i v
-    go true q h = absurd (let z : ⊥ = omega arith in z)
-    go false q h = record { inside = leb-false n i q; fit = fits (getD names i 0) v h }
 
 -- the reader accepts: what `rewrite` asks, and the word set
 module _ (s : List ℕ) (m : Room) (names : List ℕ) (blocks indexes : List ℤ) (firsts widths values : List ℕ) {a : Answer} (c : Called s m a (room names blocks indexes firsts widths values)) (t : acceptedBy (a .verdict) ≡ true) where
@@ -77,34 +64,61 @@ module _ (s : List ℕ) (m : Room) (names : List ℕ) (blocks indexes : List ℤ
         six = omega (arith, b, long call accepts K);
         most = omega (arith, b, most call accepts K);
         whole = omega (arith, b, K .held);
+        some = omega (arith, n, some-record call accepts K);
         named = omega (arith, n, A .fits, A .names .sized);
         placed = omega (arith, n, A .fits, A .firsts .sized);
         valued = omega (arith, n, A .fits, A .values .sized);
         words = λ i h w. in-front call accepts K i (entry-at (outcome call .records) i (nth call i) (holds call i (omega (arith, n)))) w;
       }
 
-  module _ (i v k : ℕ) {s′ values′ : List ℕ} {r : Answer}
-      (ek : k ≡ wordNumber names (a .frame .fields) i v)
-      (es : s′ ≡ bytesWith k s names firsts (a .frame .bytes .0) i v)
-      (ev : values′ ≡ valuesWith k s names firsts values (a .frame .bytes .0) (a .frame .fields) i v)
+  module _ (places words : List ℕ) where
+    -- the first t items set, one after another
+    items-called : (t : ℕ) → ((k : ℕ) → k < t → Fit names (a .frame .fields) (getD places k 0) (getD words k 0))
+        → Called (wordedTo s names firsts places words t) m a (room names blocks indexes firsts widths (valuesTo values places words t))
+    unfolding wordedTo valuesTo recordAt patched
+    items-called zero h = c
+    items-called (suc t) h = one (items-called t (λ k i. h k (omega arith))) (h t (omega arith))
+      where
+        one : Called (wordedTo s names firsts places words t) m a (room names blocks indexes firsts widths (valuesTo values places words t)) → Fit names (a .frame .fields) (getD places t 0) (getD words t 0)
+            → Called (worded (wordedTo s names firsts places words t) names firsts (getD places t 0) (getD words t 0)) m a (room names blocks indexes firsts widths (set (valuesTo values places words t) (getD places t 0) (getD words t 0)))
+        one c F =
+            let d : Call (wordedTo s names firsts places words t) = record { lent = m; answer = a; left = room names blocks indexes firsts widths (valuesTo values places words t); called = c } in
+            let n = fields-are d accepts in
+            let i = getD places t 0 in
+            word-called d accepts (ends d accepts) i (entry-at (outcome d .records) i (nth d i) (holds d i (omega (arith, n, F .within)))) (F .word) (getD words t 0) (F .value)
+
+    -- and crc2
+    module _ (h : (k : ℕ) → k < itemsOf places words → Fit names (a .frame .fields) (getD places k 0) (getD words k 0)) where
+      abbrev x : List ℕ
+      x = wordedTo s names firsts places words (itemsOf places words)
+
+      abbrev vs : List ℕ
+      vs = valuesTo values places words (itemsOf places words)
+
+      all-called : Called (withCrc2 x (a .frame .bytes .0)) m a (room names blocks indexes firsts widths (set vs (a .frame .fields - 1) (crc2 x (a .frame .bytes .0))))
+      unfolding patched
+      all-called =
+          let d : Call x = record { lent = m; answer = a; left = room names blocks indexes firsts widths vs; called = items-called (itemsOf places words) h } in
+          let K = ends d accepts in
+          subst (λ (n : ℕ). Called (withCrc2 x (a .frame .bytes .0)) m a (room names blocks indexes firsts widths (set vs (n - 1) (crc2 x (a .frame .bytes .0))))) (sym (fields-are d accepts))
+          (subst (λ (b : ℕ). Called (withCrc2 x b) m a (room names blocks indexes firsts widths (set vs (count d - 1) (crc2 x b)))) (sym (bytes-is d accepts K))
+          (crc2-called d accepts K))
+
+  module _ (places words : List ℕ) (k : ℕ) {s′ values′ : List ℕ} {r : Answer}
+      (ek : k ≡ wordsNumber names (a .frame .fields) places words)
+      (es : s′ ≡ bytesTo k s names firsts (a .frame .bytes .0) places words)
+      (ev : values′ ≡ heldTo k s names firsts values (a .frame .bytes .0) (a .frame .fields) places words)
       (er : r ≡ answerWith a k (a .frame .fields)) where
     -- the new frame, where there is one
     set-again : k ≡ 0 → Called s′ m r (room names blocks indexes firsts widths values′)
-    unfolding call recordAt patched
     set-again z =
-        let w = settable names (a .frame .fields) i v (sym z ∙ ek) in
-        let K = ends call accepts in
-        let n = fields-are call accepts in
-        let b = bytes-is call accepts K in
-        let E = entry-at (outcome call .records) i (nth call i) (holds call i (omega (arith, n, w .inside))) in
-        let C = set-called call accepts K i E (w .fit .word) v (w .fit .value) in
-        let y : withCrc2 (worded s names firsts i v) (K .bytes) ≡ s′ = sym (es ∙ ap₂ (λ (k b : ℕ). bytesWith k s names firsts b i v) z b) in
-        let u : set (set values i v) (count call - 1) (crc2 (worded s names firsts i v) (K .bytes)) ≡ values′
-        = sym (ev ∙ ap₂ (λ (k b : ℕ). valuesWith k s names firsts values b (a .frame .fields) i v) z b ∙ ap (λ (n : ℕ). valuesWith 0 s names firsts values (K .bytes) n i v) n) in
-        let q : a ≡ r = sym (er ∙ ap (λ (k : ℕ). answerWith a k (a .frame .fields)) z) in
+        let C = all-called places words (words-fit names (a .frame .fields) places words (sym z ∙ ek)) in
+        let y = sym (es ∙ ap (λ (k : ℕ). bytesTo k s names firsts (a .frame .bytes .0) places words) z) in
+        let u = sym (ev ∙ ap (λ (k : ℕ). heldTo k s names firsts values (a .frame .bytes .0) (a .frame .fields) places words) z) in
+        let q = sym (er ∙ ap (λ (k : ℕ). answerWith a k (a .frame .fields)) z) in
         subst (λ (x : List ℕ). Called x m r (room names blocks indexes firsts widths values′)) y
-        (subst (λ (x : List ℕ). Called (withCrc2 (worded s names firsts i v) (K .bytes)) m r (room names blocks indexes firsts widths x)) u
-        (subst (λ (x : Answer). Called (withCrc2 (worded s names firsts i v) (K .bytes)) m x (room names blocks indexes firsts widths (set (set values i v) (count call - 1) (crc2 (worded s names firsts i v) (K .bytes))))) q C))
+        (subst (λ (x : List ℕ). Called (bytesTo 0 s names firsts (a .frame .bytes .0) places words) m r (room names blocks indexes firsts widths x)) u
+        (subst (λ (x : Answer). Called (bytesTo 0 s names firsts (a .frame .bytes .0) places words) m x (room names blocks indexes firsts widths (heldTo 0 s names firsts values (a .frame .bytes .0) (a .frame .fields) places words))) q C))
 
     again : r .verdict ≡ Accepted → Called s′ m r (room names blocks indexes firsts widths values′)
     again q = go (eqb k 0) refl
@@ -125,12 +139,17 @@ module _ (s : List ℕ) (m : Room) (names : List ℕ) (blocks indexes : List ℤ
         ∙ ap (λ (x : Answer). f (acceptedBy (answerOf (answered s m) .verdict)) x (room names blocks indexes firsts widths values) (a .frame .fields)) (c .answer)
         ∙ ap₂ (λ (m′ : Room) (n : ℕ). f (acceptedBy (answerOf (answered s m) .verdict)) (answerOf (answered s m)) m′ n) (c .left) (fields-are call accepts ∙ c .count)
 
-    pub word-set : WordSet s m i v r s′ (room names blocks indexes firsts widths values′)
-    word-set = record {
-      answer = er ∙ ap (λ (k : ℕ). answerWith a k (a .frame .fields)) ek ∙ same (λ b x m n. cond b (answerWith x (wordNumber (m .names) n i v) n) x);
-      bytes = es ∙ ap (λ (k : ℕ). bytesWith k s names firsts (a .frame .bytes .0) i v) ek
-          ∙ same (λ b x m n. cond b (bytesWith (wordNumber (m .names) n i v) s (m .names) (m .firsts) (x .frame .bytes .0) i v) s);
-      left = ap (λ (vs : List ℕ). room names blocks indexes firsts widths vs) (ev ∙ ap (λ (k : ℕ). valuesWith k s names firsts values (a .frame .bytes .0) (a .frame .fields) i v) ek)
-          ∙ same (λ b x m n. cond b (room (m .names) (m .blocks) (m .indexes) (m .firsts) (m .widths) (valuesWith (wordNumber (m .names) n i v) s (m .names) (m .firsts) (m .values) (x .frame .bytes .0) n i v)) m);
+    pub words-set : WordsSet s m places words r s′ (room names blocks indexes firsts widths values′)
+    words-set = record {
+      answer = er ∙ ap (λ (k : ℕ). answerWith a k (a .frame .fields)) ek ∙ same (λ b x m n. cond b (answerWith x (wordsNumber (m .names) n places words) n) x);
+      bytes = es ∙ ap (λ (k : ℕ). bytesTo k s names firsts (a .frame .bytes .0) places words) ek
+          ∙ same (λ b x m n. cond b (bytesTo (wordsNumber (m .names) n places words) s (m .names) (m .firsts) (x .frame .bytes .0) places words) s);
+      left = ap (λ (vs : List ℕ). room names blocks indexes firsts widths vs) (ev ∙ ap (λ (k : ℕ). heldTo k s names firsts values (a .frame .bytes .0) (a .frame .fields) places words) ek)
+          ∙ same (λ b x m n. cond b (room (m .names) (m .blocks) (m .indexes) (m .firsts) (m .widths) (heldTo (wordsNumber (m .names) n places words) s (m .names) (m .firsts) (m .values) (x .frame .bytes .0) n places words)) m);
       again = again;
     }
+
+-- one word is the one item of its place and value
+pub one-word : {s : List ℕ} {m : Room} {i v : ℕ} {a : Answer} {s′ : List ℕ} {m′ : Room} → WordsSet s m (i ∷ []) (v ∷ []) a s′ m′ → WordSet s m i v a s′ m′
+unfolding wordNumber wordsNumber numberTo itemNumber listed-by wordedTo valuesTo
+one-word h = record { answer = h .answer; bytes = h .bytes; left = h .left; again = h .again }

@@ -1,4 +1,4 @@
--- A word set in an accepted frame: what the reading then gives of it. Assumes nothing.
+-- A word set in an accepted frame, and crc2 put right: what the reading then gives of it. Assumes nothing.
 use mathlib.Core.Path.{_≡_, refl, sym, ap, ap₂, _∙_, subst}
 use mathlib.Core.Bool.{Bool, true, false, cond, _||_}
 use mathlib.Core.List.{List, [], _∷_, map}
@@ -7,21 +7,21 @@ use mathlib.Core.Option.{some}
 use Prim.Native.Nat.{ℕ, zero, suc, _+_, _*_, _-_, _/_, _^_, _≤_, _<_}
 use native.Mathlib.Omega.{arith}
 use lib.Dec.{eqb}
-use lib.ListN.{length, getElem?}
+use lib.ListN.{length, length-append, getElem?}
+use lib.Seq.{set-set}
 use borrow.Author.Tests.{ne-eqb}
 use Rattle.bits.specs.Bits.{bitAt, bitsAt}
-use Rattle.bits.proofs.BitLaws.{bitsAt-cong}
 use Rattle.names.specs.Names.{dialnorm, dialnorm2, compr, compr2, dynrng, dynrng2, crc2 as crc2-name}
 use Rattle.reading.specs.Run.{Field, Entry, end, element, Result, accepted, refused, Outcome}
 use Rattle.reading.specs.Records.{All}
-use Rattle.reading.specs.Room.{Room, size, Out}
+use Rattle.reading.specs.Room.{Room, room, size, Out}
 use Rattle.reading.specs.Frame.{plain, parse}
 use Rattle.reading.specs.CommonReading.{answer, list}
 use Rattle.reading.proofs.Rooms.{cut-same}
 use Rattle.cells.specs.Cells.{State}
 use Rattle.annex.specs.Frame.{eac3}
 use Rattle.steers.specs.Steering.{bitsIn, Off}
-use Rattle.steers.specs.Writing.{patched, Writes, patchedBy}
+use Rattle.steers.specs.Writing.{patched, patchedBy}
 use Rattle.steers.specs.Closing.{Closes}
 use Rattle.steers.proofs.Closing.{closing, closes-last, closes-other}
 use Rattle.loudness.specs.Loudness.{free}
@@ -78,16 +78,21 @@ check-free : free crc2-name ≡ true
 unfolding widthOf
 check-free = refl
 
--- a call, and a call with a buffer that is read to the same but for two values
-called-again : {s y : List ℕ} {m m′ : Room} {a : Answer} (i j : ℕ) (e l : Entry) → Called s m a m′ → answered y m ≡ patchedBy free eac3 y i j e l (answered s m)
-    → Called y m a (patched j (bitsIn y l) (patched i (bitsIn y e) m′))
+-- a value set twice
+patched-twice : (m : Room) (i v : ℕ) → patched i v (patched i v m) ≡ patched i v m
+unfolding patched
+patched-twice m i v = ap (room (m .names) (m .blocks) (m .indexes) (m .firsts) (m .widths)) (set-set (m .values) i v v)
+
+-- a call, and a call with a buffer that is read to the same but for one value
+called-again : {s y : List ℕ} {m m′ : Room} {a : Answer} (i : ℕ) (e : Entry) → Called s m a m′ → answered y m ≡ patchedBy free eac3 y i i e e (answered s m)
+    → Called y m a (patched i (bitsIn y e) m′)
 unfolding answerOf
-called-again {s} {y} {m} {m′} {a} i j e l c q = record {
+called-again {s} {y} {m} {m′} {a} i e c q = record {
   answer = c .answer ∙ sym (ap (λ (o : Out State). answerBy (o .result) (o .place) (o .count)) q);
   number = c .number ∙ sym (ap (λ (o : Out State). numberIn (o .result)) q);
   place = λ k h. c .place k (sym (ap (λ (o : Out State). o .result) q) ∙ h) ∙ sym (ap (λ (o : Out State). o .place) q);
   count = c .count ∙ sym (ap (λ (o : Out State). o .count) q);
-  left = ap (λ (m : Room). patched j (bitsIn y l) (patched i (bitsIn y e) m)) (c .left) ∙ sym (ap (λ (o : Out State). o .left) q);
+  left = ap (λ (m : Room). patched i (bitsIn y e) m) (c .left) ∙ sym (patched-twice (answered s m .left) i (bitsIn y e)) ∙ sym (ap (λ (o : Out State). o .left) q);
 }
 
 abbrev Wide : Entry → Type 0
@@ -119,6 +124,39 @@ module _ {s : List ℕ} (c : Call s) (a : Accepts c) where
         clash : {r : Result State} {a : State} {k : ℕ} → r ≡ accepted a → r ≡ refused k → _≡_ {A = ℕ} 0 1
         clash e f = cc
 
+    -- a record that is free, written over: the answer stays, and the room but for its value
+    over-called : (i : ℕ) (e : Entry) (y : List ℕ) (v : ℕ) → getElem? (outcome c .records) i ≡ some e → free (e .field .name) ≡ true → length y ≡ length s
+        → ((b : ℕ) → Off (e .field) b → bitAt s b ≡ bitAt y b) → bitsIn y e ≡ v → Called y (c .lent) (c .answer) (patched i v (c .left))
+    over-called i e y v g f l h q =
+        subst (λ (u : ℕ). Called y (c .lent) (c .answer) (patched i u (c .left))) q
+        (called-again i e (c .called)
+        (loudness-rewrites .roomed s y (c .lent) i i e e
+        (record { frame = accepts c a .0; accepts = accepts c a .1; one = g; other = g; named = (f, f); long = l; elsewhere = λ b p _. h b p })))
+
+    -- crc2 is put right
+    pub crc2-called : Called (withCrc2 s (K .bytes)) (c .lent) (c .answer) (patched (count c - 1) (crc2 s (K .bytes)) (c .left))
+    unfolding eac3
+    crc2-called =
+        subst (λ (n : ℕ). Called y (c .lent) (c .answer) (patched (n - 1) (crc2 s (K .bytes)) (c .left))) (sym (counts c))
+        (over-called (length (outcome c .records) - 1) last y (crc2 s (K .bytes)) (closes-last eac3 K) check-free (C .size) (λ b o. sym (elsewhere b o)) (C .value))
+      where
+        y : List ℕ
+        y = withCrc2 s (K .bytes)
+
+        last : Entry
+        last = element (plain crc2-name) (8 * K .bytes - 16) 16 (K .value)
+
+        C : Checked s (K .bytes)
+        C = checked s (K .bytes) (omega (arith, long)) (K .held)
+
+        elsewhere : (b : ℕ) → Off (last .field) b → bitAt y b ≡ bitAt s b
+        elsewhere b (inl h) = C .before b (omega arith) h
+        elsewhere b (inr h) = C .behind (suc b) b (omega (arith, long)) (omega arith)
+
+    -- there is a last record
+    pub some-record : 1 ≤ count c
+    some-record = let q = counts c in let l = ap (λ (es : List Entry). length es) (K .last) in omega (arith, length-append (K .before) (element (plain (eac3 .names .crc2)) (8 * K .bytes - 16) 16 (K .value) ∷ []))
+
     module _ (i : ℕ) (E : At (outcome c .records) i (nth c i)) (w : 0 < widthOf (nth c i .name)) where
       name-is : E .entry .field .name ≡ nth c i .name
       name-is = ap (λ (f : Field). f .name) (E .field)
@@ -142,60 +180,18 @@ module _ {s : List ℕ} (c : Call s) (a : Accepts c) where
       pub in-front : nth c i .first + widthOf (nth c i .name) + 16 ≤ 8 * c .answer .frame .bytes .0
       in-front = omega (arith, early, first-is, width-is, long, bytes-is)
 
-      -- the word is set to v, and crc2 is put right
-      module _ (v : ℕ) (fit : v < 2 ^ widthOf (nth c i .name)) where
-        abbrev x : List ℕ
-        x = withWord s (nth c i .first) (widthOf (nth c i .name)) v
+      -- the word is set to v
+      pub word-called : (v : ℕ) → v < 2 ^ widthOf (nth c i .name) → Called (withWord s (nth c i .first) (widthOf (nth c i .name)) v) (c .lent) (c .answer) (patched i v (c .left))
+      word-called v fit =
+          over-called i (E .entry) y v (E .there) (word-free (E .entry .field .name) named) (W .size) (λ b o. sym (elsewhere b o))
+          (ap₂ (λ (p w : ℕ). bitsAt y p w) first-is width-is ∙ W .value)
+        where
+          y : List ℕ
+          y = withWord s (nth c i .first) (widthOf (nth c i .name)) v
 
-        abbrev y : List ℕ
-        y = withCrc2 x (K .bytes)
+          W : Written s (nth c i .first) (widthOf (nth c i .name)) v
+          W = written s (nth c i .first) (widthOf (nth c i .name)) v (width-most (nth c i .name)) fit (omega (arith, in-front, bytes-is, K .held))
 
-        W : Written s (nth c i .first) (widthOf (nth c i .name)) v
-        W = written s (nth c i .first) (widthOf (nth c i .name)) v (width-most (nth c i .name)) fit (omega (arith, in-front, bytes-is, K .held))
-
-        C : Checked x (K .bytes)
-        C = checked x (K .bytes) (omega (arith, long)) (omega (arith, W .size, K .held))
-
-        -- the value of the word, and crc2's, as they are read
-        word-value : bitsIn y (E .entry) ≡ v
-        word-value =
-            ap₂ (λ (p w : ℕ). bitsAt y p w) first-is width-is
-            ∙ bitsAt-cong y x (nth c i .first) (widthOf (nth c i .name)) (λ j l u. C .before j (omega arith) (omega (arith, in-front, bytes-is)))
-            ∙ W .value
-
-        abbrev last : Entry
-        last = element (plain crc2-name) (8 * K .bytes - 16) 16 (K .value)
-
-        elsewhere : (b : ℕ) → Off (E .entry .field) b → Off (last .field) b → bitAt s b ≡ bitAt y b
-        elsewhere b p q = sym (check b q ∙ word b p)
-          where
-            word : (b : ℕ) → Off (E .entry .field) b → bitAt x b ≡ bitAt s b
-            word b (inl h) = W .before b (omega arith) (omega (arith, first-is))
-            word b (inr h) = W .behind (suc b) b (omega (arith, first-is, width-is)) (omega arith)
-
-            check : (b : ℕ) → Off (last .field) b → bitAt y b ≡ bitAt x b
-            check b (inl h) = C .before b (omega arith) h
-            check b (inr h) = C .behind (suc b) b (omega (arith, long)) (omega arith)
-
-        writes : Writes free eac3 s y (size (c .lent)) i (length (outcome c .records) - 1) (E .entry) last
-        unfolding eac3
-        writes = record {
-          frame = accepts c a .0;
-          accepts = accepts c a .1;
-          one = E .there;
-          other = closes-last eac3 K;
-          named = (word-free (E .entry .field .name) named, check-free);
-          long = C .size ∙ W .size;
-          elsewhere = elsewhere;
-        }
-
-        -- the reading of the new frame
-        pub read-again : answered y (c .lent) ≡ patchedBy free eac3 y i (length (outcome c .records) - 1) (E .entry) last (answered s (c .lent))
-        read-again = loudness-rewrites .roomed s y (c .lent) i (length (outcome c .records) - 1) (E .entry) last writes
-
-        pub set-called : Called y (c .lent) (c .answer) (patched (count c - 1) (crc2 x (K .bytes)) (patched i v (c .left)))
-        set-called =
-            subst (λ (n : ℕ). Called y (c .lent) (c .answer) (patched (n - 1) (crc2 x (K .bytes)) (patched i v (c .left)))) (sym (counts c))
-            (subst (λ (v : ℕ). Called y (c .lent) (c .answer) (patched (length (outcome c .records) - 1) (crc2 x (K .bytes)) (patched i v (c .left)))) word-value
-            (subst (λ (u : ℕ). Called y (c .lent) (c .answer) (patched (length (outcome c .records) - 1) u (patched i (bitsIn y (E .entry)) (c .left)))) (C .value)
-            (called-again i (length (outcome c .records) - 1) (E .entry) last (c .called) read-again)))
+          elsewhere : (b : ℕ) → Off (E .entry .field) b → bitAt y b ≡ bitAt s b
+          elsewhere b (inl h) = W .before b (omega arith) (omega (arith, first-is))
+          elsewhere b (inr h) = W .behind (suc b) b (omega (arith, first-is, width-is)) (omega arith)

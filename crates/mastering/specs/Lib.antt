@@ -1,2 +1,3 @@
 pub mod SetWord
+pub mod SetWords
 pub mod Listed

@@ -1,4 +1,4 @@
--- The answer of a word that is set has no frame where it is a refusal. Assumes nothing.
+-- The answer of words that are set has no frame where it is a refusal. Assumes nothing.
 use mathlib.Core.Path.{refl, sym, subst}
 use mathlib.Core.Bool.{Bool, true, false, cond}
 use mathlib.Core.List.{List}
@@ -12,7 +12,8 @@ use Rattle.answer.specs.declared.Verdict.the-variants.{Refused}
 use Rattle.answer_c.specs.Parts.{Bare}
 use Rattle.answer_c.proofs.Laying.{bare-answer}
 use Rattle.eac3.specs.Called.{answered}
-use Rattle.mastering.specs.SetWord.{acceptedBy, answerWith, number, answerSet, WordSet}
+use Rattle.mastering.specs.SetWord.{acceptedBy, answerWith, number, WordSet}
+use Rattle.mastering.specs.SetWords.{numberSet, WordsSet}
 
 bare-with : (b : Bool) (a : Answer) (k n : ℕ) → Bare a → Bare (cond b a (record { verdict = Refused k (placeAt 0) n; frame = nothing }))
 bare-with true a k n h = h
@@ -22,10 +23,13 @@ bare-or : (b : Bool) (a c : Answer) → Bare a → Bare c → Bare (cond b a c)
 bare-or true a c h k = h
 bare-or false a c h k = k
 
-bare-set : (s : List ℕ) (o : Out State) (i v : ℕ) → Bare (answerSet s o i v)
-bare-set s o i v =
-    let k = number s o i v in
+-- by the number k, of a reading o
+bare-set : (o : Out State) (k : ℕ) → Bare (cond (acceptedBy (answerOf o .verdict)) (answerWith (answerOf o) k (o .count)) (answerOf o))
+bare-set o k =
     bare-or (acceptedBy (answerOf o .verdict)) (answerWith (answerOf o) k (o .count)) (answerOf o) (bare-with (eqb k 0) (answerOf o) k (o .count) (bare-answer o)) (bare-answer o)
 
 pub bare-word : {s : List ℕ} {m : Room} {i v : ℕ} {a : Answer} {s′ : List ℕ} {m′ : Room} → WordSet s m i v a s′ m′ → Bare a
-bare-word {s} {m} {i} {v} h = subst Bare (sym (h .answer)) (bare-set s (answered s m) i v)
+bare-word {s} {m} {i} {v} h = subst Bare (sym (h .answer)) (bare-set (answered s m) (number s (answered s m) i v))
+
+pub bare-words : {s : List ℕ} {m : Room} {places words : List ℕ} {a : Answer} {s′ : List ℕ} {m′ : Room} → WordsSet s m places words a s′ m′ → Bare a
+bare-words {s} {m} {places} {words} h = subst Bare (sym (h .answer)) (bare-set (answered s m) (numberSet s (answered s m) places words))
