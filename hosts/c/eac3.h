@@ -24,6 +24,9 @@ extern "C" {
 #define EAC3_SETTOP_RECORDS 12289
 #define EAC3_SETTOP_BYTES 1536
 
+/* The most loudness words that a frame holds, and that eac3_set_words sets. */
+#define EAC3_WORDS 16
+
 /* Places in the answer. */
 enum eac3_answer {
     EAC3_NUMBER = 0,           /* 0: accepted; otherwise the refusal (docs/REFUSALS.md) */
@@ -91,6 +94,23 @@ uint8_t eac3_set_word(uint8_t *frame, size_t bytes,
                       size_t place, uint32_t value,
                       uint64_t answer[EAC3_ANSWER]);
 
+/* Sets up to EAC3_WORDS loudness words of the frame at the beginning of `frame`, as eac3_set_word sets one, or none of them:
+ * the word at places[k] of the list is set to words[k], for each k below both counts, and crc2 is put right. Without an item
+ * only crc2 is. A refusal changes no byte: those of eac3_parse; 48, more than EAC3_WORDS items; then, by items in order, 41, the
+ * place is beyond the list; 47, an earlier item lists it; 42, the record there is not one of the six; 43, the value has too
+ * many bits. After these the records are those of the frame as it is. Gives answer[EAC3_NUMBER].
+ */
+uint8_t eac3_set_words(uint8_t *frame, size_t bytes,
+                       uint8_t *names, size_t names_room,
+                       int8_t *blocks, size_t blocks_room,
+                       int16_t *indexes, size_t indexes_room,
+                       uint16_t *firsts, size_t firsts_room,
+                       uint16_t *widths, size_t widths_room,
+                       uint32_t *values, size_t values_room,
+                       const size_t *places, size_t places_count,
+                       const uint32_t *words, size_t words_count,
+                       uint64_t answer[EAC3_ANSWER]);
+
 /* Further places in the answer of eac3_find. */
 enum eac3_found {
     EAC3_POSITION = 76,        /* the byte of the capture at which the frame, or the reading without room, begins */
@@ -114,6 +134,47 @@ uint8_t eac3_find(const uint8_t *capture, size_t bytes,
                   uint32_t *values, size_t values_room,
                   size_t start, size_t most,
                   uint64_t answer[EAC3_FOUND]);
+
+/* Places in the answer of eac3_gain_range, behind EAC3_NUMBER, EAC3_PLACE and EAC3_FIELDS: of each of the four gain words whether it was
+ * sent (1 or 0), and how many times. */
+enum eac3_gains {
+    EAC3_DYNRNG_SENT = 3,
+    EAC3_DYNRNG_WORDS = 4,
+    EAC3_COMPR_SENT = 5,
+    EAC3_COMPR_WORDS = 6,
+    EAC3_DYNRNG2_SENT = 7,     /* those of the second programme of a 1+1 frame */
+    EAC3_DYNRNG2_WORDS = 8,
+    EAC3_COMPR2_SENT = 9,
+    EAC3_COMPR2_WORDS = 10,
+    EAC3_GAINS = 11
+};
+
+/* Places among its factors. */
+enum eac3_factors {
+    EAC3_DYNRNG_LOW = 0,
+    EAC3_DYNRNG_HIGH = 1,
+    EAC3_COMPR_LOW = 2,
+    EAC3_COMPR_HIGH = 3,
+    EAC3_DYNRNG2_LOW = 4,
+    EAC3_DYNRNG2_HIGH = 5,
+    EAC3_COMPR2_LOW = 6,
+    EAC3_COMPR2_HIGH = 7,
+    EAC3_FACTORS = 8
+};
+
+/* Reads the frame at the beginning of `frame` as eac3_parse does, and tells the lowest and the highest factor of its gain words: of the
+ * dynrng words of its blocks, where a block without one does not count, and of compr, an equal pair. The factors are exact; a word 0 has
+ * the factor 1. Where no word was sent, as under every refusal, both factors are 1. Gives answer[EAC3_NUMBER].
+ */
+uint8_t eac3_gain_range(const uint8_t *frame, size_t bytes,
+                        uint8_t *names, size_t names_room,
+                        int8_t *blocks, size_t blocks_room,
+                        int16_t *indexes, size_t indexes_room,
+                        uint16_t *firsts, size_t firsts_room,
+                        uint16_t *widths, size_t widths_room,
+                        uint32_t *values, size_t values_room,
+                        double factors[EAC3_FACTORS],
+                        uint64_t answer[EAC3_GAINS]);
 
 #ifdef __cplusplus
 }

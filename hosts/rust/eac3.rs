@@ -14,9 +14,17 @@ extern "C" {
         frame: &mut [u8], names: &mut [u8], blocks: &mut [i8], indexes: &mut [i16], firsts: &mut [u16], widths: &mut [u16], values: &mut [u32],
         place: usize, value: u32, answer: &mut [u64; 76],
     ) -> u8;
+    fn eac3_set_words(
+        frame: &mut [u8], names: &mut [u8], blocks: &mut [i8], indexes: &mut [i16], firsts: &mut [u16], widths: &mut [u16], values: &mut [u32],
+        places: &[usize], words: &[u32], answer: &mut [u64; 76],
+    ) -> u8;
     fn eac3_find(
         capture: &[u8], names: &mut [u8], blocks: &mut [i8], indexes: &mut [i16], firsts: &mut [u16], widths: &mut [u16], values: &mut [u32],
         start: usize, most: usize, answer: &mut [u64; 78],
+    ) -> u8;
+    fn eac3_gain_range(
+        frame: &[u8], names: &mut [u8], blocks: &mut [i8], indexes: &mut [i16], firsts: &mut [u16], widths: &mut [u16], values: &mut [u32],
+        factors: &mut [f64; 8], answer: &mut [u64; 11],
     ) -> u8;
 }
 
@@ -144,6 +152,70 @@ pub fn set_word<const N: usize>(data: &mut [u8], room: &mut Room<N>, place: usiz
         )
     };
     told(number, &a)
+}
+
+/// The most loudness words that a frame holds, and that `set_words` sets.
+pub const WORDS: usize = 16;
+
+/// Sets up to 16 loudness words of the frame at the beginning of `data`, or none of them: each item is a place in the list and a value. crc2
+/// is put right, also where there is no item. The frame and the records in the room are those of the new frame; a refusal changes no byte.
+pub fn set_words<const N: usize>(data: &mut [u8], room: &mut Room<N>, items: &[(usize, u32)]) -> Result<Frame, Refusal> {
+    let (mut places, mut words) = ([0usize; WORDS + 1], [0u32; WORDS + 1]);
+    // one more than may be set is enough to be told of
+    let n = items.len().min(WORDS + 1);
+    for (k, &(place, value)) in items[..n].iter().enumerate() {
+        (places[k], words[k]) = (place, value);
+    }
+    let mut a = [0u64; 76];
+    // Likewise, for all places and values.
+    let number = unsafe {
+        eac3_set_words(
+            data, &mut room.names, &mut room.blocks, &mut room.indexes, &mut room.firsts, &mut room.widths, &mut room.values, &places[..n],
+            &words[..n], &mut a,
+        )
+    };
+    told(number, &a)
+}
+
+/// What a frame says of one of its gain words: the lowest and the highest factor where it was sent, and the range record, which holds
+/// 1, 1 and 0 where it was not. The factors are exact.
+#[derive(Clone, Copy, Debug, PartialEq)]
+pub struct Gain {
+    pub factors: Option<(f64, f64)>,
+    pub low: f64,
+    pub high: f64,
+    pub words: usize,
+}
+
+/// The gain words of a frame: those of the first programme, and of the second. A refused frame has sent none.
+#[derive(Clone, Copy, Debug, PartialEq)]
+pub struct Gains {
+    /// The records in the room, or the refusal.
+    pub answer: Result<usize, Refusal>,
+    pub dynrng: Gain,
+    pub compr: Gain,
+    pub dynrng2: Gain,
+    pub compr2: Gain,
+}
+
+/// Reads the frame at the beginning of `data`, as `parse` does, and tells the range of its gain words.
+pub fn gain_range<const N: usize>(data: &[u8], room: &mut Room<N>) -> Gains {
+    let (mut f, mut a) = ([0.0; 8], [0u64; 11]);
+    // Likewise, for every slice and every room.
+    let number = unsafe {
+        eac3_gain_range(
+            data, &mut room.names, &mut room.blocks, &mut room.indexes, &mut room.firsts, &mut room.widths, &mut room.values,
+            &mut f, &mut a,
+        )
+    };
+    let gain = |k: usize| Gain {
+        factors: (a[3 + 2 * k] == 1).then_some((f[2 * k], f[2 * k + 1])),
+        low: f[2 * k],
+        high: f[2 * k + 1],
+        words: a[4 + 2 * k] as usize,
+    };
+    let answer = if number == 0 { Ok(a[2] as usize) } else { Err(Refusal { number, place: a[1] as u16, records: a[2] as usize }) };
+    Gains { answer, dynrng: gain(0), compr: gain(1), dynrng2: gain(2), compr2: gain(3) }
 }
 
 /// What a search ends with: a frame, or the refusal 33, at a position of the capture; or the refusal 44, no position is left, or 45, the
