@@ -4,13 +4,15 @@
 // Levels (psd, bndpsd, leaks, excitation, mask, knee, floor) are held 8192 above their value, so that none is below 0;
 // differences of levels (gains, decays, lowcomp) are held as they are.
 
+#![tactic(auto)]
+
 ghost use Rattle.std.specs.Prelude.{◌≡◌, ◌-◌, ◌<◌, max, min};
 ghost use Rattle.tables.specs.BitAllocation.{bndend};
 ghost use Rattle.tables.specs.Bands.{end_of};
 ghost use Rattle.alloc.specs.Allocation.{params_of, leak_of};
 
 // The parameters, in the units of the tables.
-#[derive(Drop)]
+#[derive(Clone, Copy)]
 pub struct Params {
     pub sdecay: u32,
     pub fdecay: u32,
@@ -21,14 +23,14 @@ pub struct Params {
 }
 
 // The leaks that coupling starts with, fast and slow. Other channels have none.
-#[derive(Drop)]
+#[derive(Clone, Copy)]
 pub enum Leak {
     Absent,
     Pair(u32, u32),
 }
 
 // The segments of delta bit allocation: `n` of them.
-#[derive(Drop)]
+#[derive(Clone, Copy)]
 pub struct Deltas {
     pub n: usize,
     pub offset: [u8; 8],
@@ -37,14 +39,14 @@ pub struct Deltas {
 }
 
 // Which table gives the pointers.
-#[derive(Drop)]
+#[derive(Clone, Copy)]
 pub enum Pointers {
     Bap,
     Hebap,
 }
 
 // The bins start .. end - 1 of a channel, its fast gain and its offset codes.
-#[derive(Drop)]
+#[derive(Clone, Copy)]
 pub struct Channel {
     pub start: usize,
     pub end: usize,
@@ -54,7 +56,7 @@ pub struct Channel {
 }
 
 // The gains and decays.
-#[derive(Drop)]
+#[derive(Clone, Copy)]
 pub struct Gains {
     pub fgain: u32,
     pub sgain: u32,
@@ -63,14 +65,14 @@ pub struct Gains {
 }
 
 // The leaks before the first band, as levels.
-#[derive(Drop)]
+#[derive(Clone, Copy)]
 pub struct Leaks {
     pub fast: u32,
     pub slow: u32,
 }
 
 // The leaks and the low-frequency compensation as the bands are passed.
-#[derive(Drop)]
+#[derive(Clone, Copy)]
 pub struct Passed {
     pub fast: u32,
     pub slow: u32,
@@ -78,7 +80,7 @@ pub struct Passed {
 }
 
 // The knee and the floor as levels, and the offset 960 above its value.
-#[derive(Drop)]
+#[derive(Clone, Copy)]
 pub struct Levels {
     pub knee: u32,
     pub floor: u32,

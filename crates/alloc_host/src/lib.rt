@@ -1,5 +1,7 @@
 // `allocate` by codes, for a driver outside: the comparison with the Rust, and the timing.
 
+#![tactic(auto)]
+
 ghost use Rattle.std.specs.Prelude.{◌≡◌, ◌≤◌, length};
 ghost use Rattle.alloc.specs.Premises.{Exponents};
 ghost use Rattle.alloc_host.specs.Host.{kind_of, leak_by, channel_of, params_by, deltas_of, allocation_by, Codes};

@@ -1,4 +1,6 @@
 // The state of bit allocation, and the pointers of a block (A/52 clause 7.2.2.1, TS 102 366 clause 6.2.2.1).
+#![tactic(auto)]
+
 ghost use Rattle.std.specs.Prelude.{◌≡◌, cond, [], ◌∷◌, ◌*◌, ◌-◌, ◌/◌, ◌%◌, ◌<◌, ◌≤◌, min, length};
 ghost use Rattle.alloc.specs.Allocation.{tab};
 ghost use Rattle.alloc.specs.Premises.{Lent};
@@ -18,7 +20,7 @@ use slots::{CPL, LFE, Shape, hybrid, range_at, requested};
 pub mod memo; // what is kept of the last allocation of each slot
 
 // The codes of the parameters.
-#[derive(Drop)]
+#[derive(Clone, Copy)]
 pub struct Codes {
     pub sdcycod: u8,
     pub fdcycod: u8,
@@ -27,14 +29,14 @@ pub struct Codes {
     pub floorcod: u8,
 }
 
-#[derive(Drop)]
+#[derive(Clone, Copy)]
 pub enum Parameters {
     NeverSent,
     Sent(Codes),
 }
 
 // What bit allocation carries from block to block, by slot where it is an array.
-#[derive(Drop)]
+#[derive(Clone, Copy)]
 pub struct AllocState {
     pub parameters: Parameters,
     pub csnroffst: u8,
@@ -45,7 +47,7 @@ pub struct AllocState {
 }
 
 // The delta segments of the slots 0 to 5: their number, and eight of each slot at 8 * slot.
-#[derive(Drop)]
+#[derive(Clone, Copy)]
 pub struct Segments {
     pub n: [u8; 6],
     pub offset: [u8; 48],

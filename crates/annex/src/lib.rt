@@ -1,4 +1,6 @@
 // The syntax of Annex E as a table of rows.
+#![tactic(auto)]
+
 pub mod table;
 
 ghost use Rattle.annex.specs.Table.{Annexed};

@@ -1,4 +1,6 @@
 // What the entry answers: an accepted frame, or one numbered refusal.
+#![tactic(auto)]
+
 ghost use Rattle.std.specs.Prelude.{◌≡◌, ◌≤◌, ◌<◌};
 ghost use Rattle.answer.specs.Answer.{nothing, places_of, slot_bits_at, slot_bits_in, frame_of, number_by, place_by, count_by};
 ghost use Rattle.answer.specs.Cursors.{refusal_from, answer_from};
@@ -10,20 +12,20 @@ use sideinfo::shapes::seven_flags;
 use syntax::Cursor;
 
 // An accepted frame, or the refusal's number, its bit place, and the records that were written.
-#[derive(Drop)]
+#[derive(Clone, Copy)]
 pub enum Verdict {
     Accepted,
     Refused(u8, BitPlace, usize),
 }
 
 // The bits that the slots of a block took, in the order of aht_slots: the channels 0 to 4, coupling, LFE.
-#[derive(Drop)]
+#[derive(Clone, Copy)]
 pub struct SlotBits {
     pub bits: [u16; 7],
 }
 
 // What a frame says of itself. The starts of blocks that it has not are 0; after a refusal all is 0 or no.
-#[derive(Drop)]
+#[derive(Clone, Copy)]
 pub struct Frame {
     pub bytes: ByteCount,
     pub fields: usize,
@@ -44,7 +46,7 @@ pub struct Frame {
     pub slot_bits: [SlotBits; 6],
 }
 
-#[derive(Drop)]
+#[derive(Clone, Copy)]
 pub struct Answer {
     pub verdict: Verdict,
     pub frame: Frame,

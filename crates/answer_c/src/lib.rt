@@ -1,4 +1,6 @@
 // An answer as numbers, for hosts outside.
+#![tactic(auto)]
+
 ghost use Rattle.std.specs.Prelude.{◌≡◌, ◌+◌, ◌≤◌, length};
 ghost use Rattle.answer.specs.Answer.{number_of};
 ghost use Rattle.answer_c.specs.Numbers.{bit_of, frame_numbers, written, laid, bits_laid, laid_of};

@@ -1,5 +1,7 @@
 // House data in auxbits: a payload out of a lent frame, into it, and removed. A payload is a number of bits, and bytes
 // that hold them, the high bit first.
+#![tactic(auto)]
+
 ghost use mathlib.Core.Path.{◌≡◌};
 ghost use Prim.Native.Nat.{◌+◌, ◌*◌, ◌-◌, ◌/◌, ◌%◌, ◌^◌, ◌≤◌, ◌<◌, min};
 ghost use lib.Dec.{eqb};

@@ -1,5 +1,7 @@
 // The powers of the bins and their sums by band: A/52 clauses 7.2.2.2 and 7.2.2.3, TS 102 366 clauses 6.2.2.2 and 6.2.2.3. On
 // levels: see the crate `alloc`.
+#![tactic(auto)]
+
 ghost use Rattle.std.specs.Prelude.{◌≡◌, ◌+◌, ◌/◌, ◌<◌, ◌≤◌, min, get_or, replicate};
 ghost use Rattle.tables.specs.BitAllocation.{latab as laTab, bndend};
 ghost use Rattle.tables.specs.Bands.{band_of};

@@ -1,13 +1,15 @@
 // Bits of a slice of bytes, the high bit of each byte first (A/52 clause 5.3, TS 102 366 clause 4.3).
+#![tactic(auto)]
+
 ghost use Rattle.std.specs.Prelude.{◌≡◌, false, ◌+◌, ◌*◌, ◌-◌, ◌/◌, ◌<◌, ◌≤◌, ltb, length};
 ghost use Rattle.bits.specs.Bits.{bits_at, get_of};
 
 // A place in a syncframe, in bits from its first one. A frame has at most 32,768.
-#[derive(Drop)]
+#[derive(Clone, Copy)]
 pub struct BitPlace(pub u16);
 
 // A number of whole bytes. A frame has at most 4,096.
-#[derive(Drop)]
+#[derive(Clone, Copy)]
 pub struct ByteCount(pub u16);
 
 impl ByteCount {

@@ -1,4 +1,6 @@
 // The crates of a block for a driver outside: the comparison with the reference.
+#![tactic(auto)]
+
 ghost use Rattle.std.specs.Prelude.{◌≡◌, ◌+◌, ◌*◌, ◌-◌, ◌<◌, ◌≤◌, length};
 ghost use Rattle.reading.specs.Run.{skim};
 ghost use Rattle.exponents.specs.Exponents.{decode_of, size_of, groups_of, start_of, first_of, put_of, laid_of};

@@ -1,4 +1,6 @@
 // The cells: what a reading keeps of the elements that it has read, and what is derived from them.
+#![tactic(auto)]
+
 pub mod numbers;
 
 ghost use Rattle.std.specs.Prelude.{◌≡◌, ◌%◌};

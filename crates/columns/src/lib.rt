@@ -1,4 +1,6 @@
 // The columns of a table by channels: the coupling channel, the full bandwidth channels and the LFE channel.
+#![tactic(auto)]
+
 ghost use Rattle.std.specs.Prelude.{◌≡◌, ◌≤◌};
 ghost use Rattle.print.specs.Text.{Added};
 ghost use Rattle.columns.specs.Columns.{names_of, heading_of, channels_of};

@@ -1,5 +1,7 @@
 // The cyclic redundancy check of a syncframe (crc.rs; A/52 clause 7.10.1, TS 102 366 clause 6.10.1), by two tables, two bytes
 // at a time.
+#![tactic(auto)]
+
 mod steps;
 
 ghost use Rattle.std.specs.Prelude.{◌≡◌, ◌*◌, ◌-◌, ◌≤◌, length};

@@ -1,5 +1,7 @@
 // The remainder of a slice, for a driver outside: the comparison with the Rust, and the timing.
 
+#![tactic(auto)]
+
 ghost use Rattle.std.specs.Prelude.{◌≡◌, ◌*◌, length};
 ghost use Rattle.crc.specs.Crc.{remainder};
 

@@ -1,1 +1,2 @@
 // What the reader's contract gives a host: specs/ says it, proofs/ shows it. There is no code.
+#![tactic(auto)]

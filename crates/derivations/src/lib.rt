@@ -1,4 +1,6 @@
 // The derivations: what the standard gives as a formula or a table, and not as syntax.
+#![tactic(auto)]
+
 pub mod allocating;
 pub mod mantissas;
 pub mod sets;

@@ -1,4 +1,6 @@
 // The reader of E-AC-3 syncframes (eac3.rs; A/52 Annex E, TS 102 366 Annex E).
+#![tactic(auto)]
+
 ghost use Rattle.reading.specs.Room.{room};
 ghost use Rattle.eac3.specs.Called.{Called, SettopCalled};
 

@@ -1,4 +1,6 @@
 // The reader's entries for hosts outside: C functions over slices.
+#![tactic(auto)]
+
 ghost use Rattle.reading.specs.Room.{room};
 ghost use Rattle.eac3.specs.Called.{answered_by, answered, settop};
 ghost use Rattle.eac3_c.specs.Given.{Given};

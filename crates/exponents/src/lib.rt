@@ -2,6 +2,8 @@
 //
 // `exps` holds seven slots of 256 exponents: of the five full bandwidth channels, the coupling channel (5)
 // and the LFE channel (6).
+#![tactic(auto)]
+
 ghost use Rattle.std.specs.Prelude.{◌≡◌, true, ◌+◌, ◌-◌, ◌<◌, ◌≤◌, length};
 ghost use Rattle.exponents.specs.Exponents.{next_of, decode_of, size_of, groups_of, start_of, first_of, put_of, spread_of, laid_of};
 
@@ -10,14 +12,14 @@ use slots::{CPL, LFE};
 pub mod set; // a set of exponents, read group by group
 
 // An exponent after one step, or none where it leaves 0 to 24.
-#[derive(Drop)]
+#[derive(Clone, Copy)]
 pub enum Next {
     Outside,
     To(u32),
 }
 
 // What a group comes to: three exponents, or a refusal.
-#[derive(Drop)]
+#[derive(Clone, Copy)]
 pub enum Group {
     Refused(u8),
     Moved(u32, u32, u32),

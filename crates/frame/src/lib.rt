@@ -1,4 +1,6 @@
 // One frame whose opening is good: header, body and tail.
+#![tactic(auto)]
+
 ghost use Rattle.std.specs.Prelude.{◌≡◌, ◌+◌, ◌*◌, ◌%◌, ◌≤◌};
 ghost use Rattle.reading.specs.Room.{room};
 ghost use Rattle.slots.specs.Held.{bins};

@@ -1,5 +1,7 @@
 // The lines of the program `frames`: a heading, a line for each frame, a line for each stretch of bytes that hold none, and a last one
 // with the sums.
+#![tactic(auto)]
+
 ghost use Rattle.std.specs.Prelude.{◌≡◌};
 ghost use Rattle.print.specs.Text.{Added, Holds};
 ghost use Rattle.frame_line.specs.Lines.{mode_of, lfe_of, rate_of, what_of, channels_of, sizes_of, line_of, heading_of, stretch_of, sums_of};

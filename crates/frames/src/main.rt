@@ -3,6 +3,8 @@
 //
 // The capture is held in pieces. A position is decided only where at least 4,096 bytes of the capture lie from it on, or all that it
 // has: no frame is longer, and what follows a frame is not looked at, so each position gets the answer that it has in the whole.
+#![tactic(auto)]
+
 ghost use Rattle.std.specs.Prelude.{◌≡◌, ◌-◌, ◌≤◌, min, length};
 ghost use Rattle.ingest.specs.Ingest.{empty};
 ghost use Rattle.search.specs.Find.{found_in};
@@ -19,7 +21,7 @@ const LONGEST: usize = 4096;
 
 // How far the capture is told: `before` bytes came before the `size` that are held, of which those before `at` are done with; the last
 // frame ended at the position `behind` of the capture. Then what the last line says.
-#[derive(Drop)]
+#[derive(Clone, Copy)]
 struct Place {
     before: u64,
     size: usize,

@@ -1,4 +1,6 @@
 // The gain words of a frame as factors, dynrng and compr: the lowest and the highest, exactly.
+#![tactic(auto)]
+
 ghost use Rattle.std.specs.Prelude.{◌≡◌, ◌+◌, ◌%◌, ◌^◌, ◌<◌, ◌≤◌, min, max, length, if◌then◌else◌};
 ghost use Rattle.gain.specs.Factor.{dynrng_factor, compr_factor, factor_of, Exactly};
 ghost use Rattle.gain.specs.Gains.{ranged_of, gains_of};
@@ -7,21 +9,21 @@ ghost use Rattle.gain.specs.Parts.{named, turn, add_to, gain_name, NextWord, not
 use names::numbers::{COMPR, COMPR2, DYNRNG, DYNRNG2};
 
 // The two kinds of gain word.
-#[derive(Drop)]
+#[derive(Clone, Copy)]
 pub enum Kind {
     Dynrng,
     Compr,
 }
 
 // The answer for some words: none was sent, or the lowest and the highest factor.
-#[derive(Drop)]
+#[derive(Clone, Copy)]
 pub enum Gain {
     NotSent,
     Present(f64, f64),
 }
 
 // The range record: both factors and the number of words; 1, 1 and 0 where none was sent.
-#[derive(Drop)]
+#[derive(Clone, Copy)]
 pub struct Range {
     pub low: f64,
     pub high: f64,
@@ -29,13 +31,13 @@ pub struct Range {
 }
 
 // An answer with its range record, and the four of a frame: those of the first programme, and of the second.
-#[derive(Drop)]
+#[derive(Clone, Copy)]
 pub struct Ranged {
     pub gain: Gain,
     pub range: Range,
 }
 
-#[derive(Drop)]
+#[derive(Clone, Copy)]
 pub struct Gains {
     pub dynrng: Ranged,
     pub compr: Ranged,
@@ -44,14 +46,14 @@ pub struct Gains {
 }
 
 // What some words span, each turned: the lowest, the highest and how many. The same of the words of four names.
-#[derive(Drop)]
+#[derive(Clone, Copy)]
 struct Extent {
     low: u8,
     high: u8,
     words: usize,
 }
 
-#[derive(Drop)]
+#[derive(Clone, Copy)]
 struct Extents {
     dynrng: Extent,
     compr: Extent,

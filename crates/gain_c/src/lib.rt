@@ -1,4 +1,6 @@
 // The gain range of a frame for hosts outside: a C function over slices and numbers.
+#![tactic(auto)]
+
 ghost use Rattle.std.specs.Prelude.{◌≡◌, ◌+◌, ◌≤◌, length};
 ghost use Rattle.reading.specs.Room.{room};
 ghost use Rattle.answer.specs.Answer.{number_of};

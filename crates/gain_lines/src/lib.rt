@@ -1,6 +1,8 @@
 // The gain range of a frame for people: five lines, the reader's answer, and of each of the four words how many were sent,
 // with the lowest and the highest factor in decimal, exactly, and in dB, to two decimals. What the lines say is not proved, only
 // that they are made and written; what must be printed comes from the reference of compare/gains.rs.
+#![tactic(auto)]
+
 ghost use Rattle.std.specs.Prelude.{◌≡◌, true, ◌+◌, ◌*◌, ◌^◌, ◌≤◌, ◌<◌};
 
 use answer::Answer;

@@ -1,4 +1,6 @@
 // The gain range of a frame as factors.
+#![tactic(auto)]
+
 ghost use Rattle.std.specs.Prelude.{◌≡◌};
 ghost use Rattle.reading.specs.Room.{room};
 ghost use Rattle.gain_range.specs.GainRange.{GainsRead};
@@ -7,7 +9,7 @@ use answer::Answer;
 use gain::{Gains, gains_in};
 
 // What is told of a frame: the reader's answer, and the four answers about its gain words.
-#[derive(Drop)]
+#[derive(Clone, Copy)]
 pub struct FrameGains {
     pub answer: Answer,
     pub gains: Gains,

@@ -1,5 +1,7 @@
 // The gain range of the frame on standard input: of dynrng and compr, and of those of a second programme, the lowest and the
 // highest factor, and both in dB.
+#![tactic(auto)]
+
 use gain_range::{FrameGains, gain_range};
 use libc::STDIN_FILENO;
 

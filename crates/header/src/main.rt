@@ -1,5 +1,7 @@
 // Reads the header of the frame on standard input through crate `lent`, from syncword to bsid, and prints each element
 // on a line: first bit, width, name and value. It ends where an element passes the bytes that there are.
+#![tactic(auto)]
+
 ghost use Rattle.std.specs.Prelude.{◌≡◌, ◌*◌, ◌≤◌, length};
 ghost use Rattle.names.specs.Spelling.{rows};
 

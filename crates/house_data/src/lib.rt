@@ -1,4 +1,6 @@
 // House data in auxbits: the payload of a lent frame read, written and removed.
+#![tactic(auto)]
+
 ghost use mathlib.Core.Path.{◌≡◌};
 ghost use Rattle.eac3.specs.Rooms.{rooms};
 ghost use Rattle.house_data.specs.HouseData.{PayloadRead, PayloadSet, PayloadRemoved};
@@ -11,7 +13,7 @@ use payloads::{give_out, place_set, removed, written};
 use tail_rooms::{lay_tail, tail_count};
 
 // The payload of a frame, read: the answer, and how many bits the payload has; 0 after a refusal.
-#[derive(Drop)]
+#[derive(Clone, Copy)]
 pub struct PayloadAnswer {
     pub answer: Answer,
     pub bits: u16,

@@ -1,4 +1,6 @@
 // The house data entries for hosts outside: C functions over slices and numbers.
+#![tactic(auto)]
+
 ghost use Rattle.eac3.specs.Rooms.{rooms};
 ghost use Rattle.house_data_c.specs.Given.{ReadGiven, SetGiven, RemovedGiven};
 

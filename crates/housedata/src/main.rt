@@ -2,6 +2,8 @@
 // and its bits to standard output. `put FILE` writes the bytes of the file into the frame as its payload, `put FILE BITS` so
 // many bits of them, and `clear` removes the payload; what was read, with the new frame, goes to standard output, and what
 // follows it is passed on. Where that cannot be done a line on standard error says why, and nothing is written.
+#![tactic(auto)]
+
 ghost use Prim.Native.Nat.{◌≤◌};
 ghost use lib.ListN.{length};
 
@@ -179,7 +181,7 @@ fn wanted(bytes: usize) -> u64
 }
 
 // The file that the second argument names: how many of its bytes came into a buffer, or 0 and a line that says why not.
-#[derive(Drop)]
+#[derive(Clone, Copy)]
 struct Loaded {
     bytes: usize,
     ok: bool,

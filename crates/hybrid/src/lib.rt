@@ -1,5 +1,7 @@
 // The adaptive hybrid transform: gain words, vector indexes and pre-mantissas of a slot (TS 102 366
 // clauses E.1.2.4, E.2.4.2 and E.2.4.4).
+#![tactic(auto)]
+
 ghost use Rattle.std.specs.Prelude.{◌≡◌, List, [], cond, ℕ, ◌+◌, ◌-◌, ◌*◌, ◌^◌, ◌/◌, ◌%◌, ◌<◌, ◌≤◌, length, get_or, eqb};
 ghost use Rattle.tables.specs.Small.{vq_bits, gaq_bits};
 ghost use Rattle.reading.specs.Run.{skim};
@@ -11,7 +13,7 @@ use bits::BitPlace;
 use skim::{Look, between, raw};
 
 // A refusal number, or 0; the place; and the tags counted.
-#[derive(Drop)]
+#[derive(Clone, Copy)]
 pub struct Tagged {
     pub number: u8,
     pub place: BitPlace,
@@ -19,7 +21,7 @@ pub struct Tagged {
 }
 
 // Of a slot: a refusal number, or 0; the place; the tags; and the bits that it took, 0 after a refusal.
-#[derive(Drop)]
+#[derive(Clone, Copy)]
 pub struct Transformed {
     pub number: u8,
     pub place: BitPlace,
@@ -28,7 +30,7 @@ pub struct Transformed {
 }
 
 // A refusal number, or 0; the place; and the gains read, with gain 1 behind them.
-#[derive(Drop)]
+#[derive(Clone, Copy)]
 pub struct Gains {
     pub number: u8,
     pub place: BitPlace,

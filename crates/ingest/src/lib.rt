@@ -1,4 +1,6 @@
 // A frame and its records, from a slice or from standard input.
+#![tactic(auto)]
+
 pub mod cases;
 
 ghost use Rattle.ingest.specs.Ingest.{ReadFrom, Read};

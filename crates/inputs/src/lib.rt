@@ -1,4 +1,6 @@
 // Rows that read: bits are looked at, and what is found is recorded and stored.
+#![tactic(auto)]
+
 ghost use Rattle.std.specs.Prelude.{◌≡◌, ◌*◌, ◌%◌, ◌≤◌, ◌<◌, length};
 ghost use Rattle.reading.specs.Room.{room};
 ghost use Rattle.slots.specs.Held.{bins};
@@ -122,7 +124,7 @@ pub fn take(
 }
 
 // What a set of exponents is read with.
-#[derive(Drop)]
+#[derive(Clone, Copy)]
 pub struct Set {
     pub name: u8,
     pub block: i8,

@@ -1,11 +1,13 @@
 // What is kept of the last allocation of each slot: six words. Five say what its pointers were computed from, but for
 // the exponents; the last is the tally of the pointers. The first word is 0 where the slot is stale: its exponents are
 // not those that its pointers were computed from.
+#![tactic(auto)]
+
 ghost use Rattle.std.specs.Prelude.{◌≡◌, ◌&&◌, ◌<◌, length};
 ghost use Rattle.kept.specs.Kept.{Kept, Noted, stale_of};
 
 // What a slot's pointers are computed from, besides its exponents: words of eight bytes.
-#[derive(Drop)]
+#[derive(Clone, Copy)]
 pub struct Source {
     pub own: u64,
     pub common: u64,

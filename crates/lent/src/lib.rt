@@ -2,6 +2,8 @@
 // and `close`. The borrow checker covers no function over such a struct, so each is thin and proved by hand: it takes the
 // struct apart and calls the covered function of the same name with `_at`, which says the same of a slice and a place.
 // `element` makes a reader of plain parameters and reads: its callers need no proof by hand.
+#![tactic(auto)]
+
 ghost use Rattle.std.specs.Prelude.{◌≡◌, true, ◌*◌, ◌≤◌, length};
 ghost use Rattle.reading.specs.Room.{room};
 ghost use Rattle.syntax.specs.Records.{outcome};
@@ -12,14 +14,14 @@ use bits::BitPlace;
 use reads::Taken;
 use syntax::Cursor;
 
-#[derive(Drop)]
+#[derive(Clone, Copy)]
 pub struct Reader<'a> {
     pub src: &'a [u8],
     pub at: BitPlace,
 }
 
 // What a record is called: the name's number, the block and the index.
-#[derive(Drop)]
+#[derive(Clone, Copy)]
 pub struct Label {
     pub name: u8,
     pub block: i8,

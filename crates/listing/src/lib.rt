@@ -1,4 +1,6 @@
 // The answer and the records of a frame, as lines of text in a lent buffer.
+#![tactic(auto)]
+
 ghost use Rattle.std.specs.Prelude.{◌≡◌, ◌≤◌, min, length};
 ghost use Rattle.names.specs.Spelling.{rows};
 ghost use Rattle.print.specs.Text.{Added, Holds};
@@ -8,7 +10,7 @@ use answer::{Answer, Verdict, count_of};
 use print::{number, put, signed, signed_byte};
 
 // An answer, with as many records as it counts, in the order of their first bits. What follows them is 0.
-#[derive(Drop)]
+#[derive(Clone, Copy)]
 pub struct Records {
     pub answer: Answer,
     pub names: [u8; 2048],

@@ -1,1 +1,2 @@
 // Loudness words steer nothing. It has no code: what holds is said in specs/ and shown in proofs/.
+#![tactic(auto)]

@@ -1,5 +1,7 @@
 // Conventional mantissas: how many bits they take, by their pointers (A/52 clause 7.3.5, TS 102 366
 // clause 6.3.5). Of the input only the end is asked for.
+#![tactic(auto)]
+
 ghost use Rattle.std.specs.Prelude.{◌≡◌, cond, List, ℕ, ◌+◌, ◌-◌, ◌%◌, ◌<◌, ◌≤◌, length, get_or};
 ghost use Rattle.tables.specs.Small.{bap_bits};
 ghost use Rattle.reading.specs.Run.{skim};
@@ -14,7 +16,7 @@ use skim::between;
 pub mod tally; // what the pointers of a range come to
 
 // How many mantissas of the group at hand have passed, of the pointers 1, 2 and 4.
-#[derive(Drop)]
+#[derive(Clone, Copy)]
 pub struct Groups {
     pub g1: u8,
     pub g2: u8,
@@ -23,7 +25,7 @@ pub struct Groups {
 
 // Where the mantissas of a range end, or that they pass the frame's end, and where the first does; and the bits that
 // they took, 0 after a refusal.
-#[derive(Drop)]
+#[derive(Clone, Copy)]
 pub struct Passed {
     pub refused: bool,
     pub place: BitPlace,

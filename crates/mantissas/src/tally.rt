@@ -5,7 +5,7 @@ ghost use Rattle.alloc.specs.Allocation.{tab};
 ghost use Rattle.mantissas.specs.Tally.{share_of, packed, fields_of, tally_of, opened_of, turned_of};
 
 // The bits of the mantissas that stand alone, and how many there are of the pointers 1, 2 and 4.
-#[derive(Drop)]
+#[derive(Clone, Copy)]
 pub struct Tally {
     pub alone: u16,
     pub n1: u16,

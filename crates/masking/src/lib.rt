@@ -1,6 +1,8 @@
 // The masks of parametric bit allocation, from the powers of the bands on: A/52 clauses 7.2.2.4 to 7.2.2.6, TS 102 366
 // clauses 6.2.2.4 to 6.2.2.6. On levels: see the crate `alloc`.
 
+#![tactic(auto)]
+
 ghost use Rattle.std.specs.Prelude.{◌≡◌, ℕ, ◌+◌, ◌-◌, ◌<◌, ◌≤◌, max, length, get_or, replicate};
 ghost use Rattle.tables.specs.BitAllocation.{hth as hthTab};
 ghost use Rattle.alloc.specs.Allocation.{lfe_last};

@@ -1,4 +1,6 @@
 // Loudness words set in a lent frame, by their places in the list: up to 16 or none, and one.
+#![tactic(auto)]
+
 ghost use Rattle.std.specs.Prelude.{◌≡◌, cond, ◌||◌, ◌≤◌, ◌<◌, eqb, length};
 ghost use Rattle.reading.specs.Room.{room};
 ghost use Rattle.mastering.specs.SetWord.{accepted_by, answer_with, WordSet};

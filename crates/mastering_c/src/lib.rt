@@ -1,4 +1,6 @@
 // The entries that set loudness words, for hosts outside: C functions over slices and numbers.
+#![tactic(auto)]
+
 ghost use Rattle.reading.specs.Room.{room};
 ghost use Rattle.mastering_c.specs.Given.{WordGiven, WordsGiven};
 

@@ -1,4 +1,6 @@
 // What a refusal means, as a few words for people. What they say is not proved.
+#![tactic(auto)]
+
 use print::put;
 
 // Refusals of the header.

@@ -1,4 +1,6 @@
 // Prints each name of a record on a line: its number, its spelling and its role.
+#![tactic(auto)]
+
 ghost use Rattle.std.specs.Prelude.{◌≡◌};
 ghost use Rattle.names.specs.Spelling.{rows};
 

@@ -1,4 +1,6 @@
 // The names of records: numbers, spellings and roles (syntax.rs).
+#![tactic(auto)]
+
 ghost use Rattle.std.specs.Prelude.{◌≡◌, List, map, length};
 ghost use Rattle.names.specs.Names.{Name, names};
 ghost use Rattle.names.specs.Spelling.{spelling_of, padded, rows};
@@ -8,7 +10,7 @@ pub mod numbers;
 mod spellings;
 
 // What a name means to those who change frames. Where there is a number, it is the programme, 0 or 1.
-#[derive(Drop)]
+#[derive(Clone, Copy)]
 pub enum Role {
     Plain,
     Sync,

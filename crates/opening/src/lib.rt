@@ -1,5 +1,7 @@
 // The opening of a syncframe: the slice is long enough, it begins with the sync word, and bsid, which is looked at ahead, is one of E-AC-3.
 // Nothing else is read or laid before.
+#![tactic(auto)]
+
 ghost use Rattle.std.specs.Prelude.{◌≡◌, ◌&&◌, ◌≤◌, eqb, length};
 ghost use Rattle.bits.specs.Bits.{bits_at};
 ghost use Rattle.reading.specs.Room.{room};

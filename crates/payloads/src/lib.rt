@@ -1,4 +1,6 @@
 // The payload of a frame whose bytes and audio end are known: given out, written and removed, with what is refused.
+#![tactic(auto)]
+
 ghost use mathlib.Core.Path.{◌≡◌};
 ghost use mathlib.Core.Bool.{cond};
 ghost use Prim.Native.Nat.{◌+◌, ◌*◌, ◌≤◌};
@@ -13,7 +15,7 @@ use bits::{BitPlace, ByteCount, bits_at};
 use crc::set_crc2;
 
 // What was taken out of a frame: 0 or the number of a refusal, and the bits.
-#[derive(Drop)]
+#[derive(Clone, Copy)]
 pub struct Taken {
     pub number: u8,
     pub bits: u16,

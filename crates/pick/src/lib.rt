@@ -1,4 +1,6 @@
 // The first frame of a wanted type and number in a buffer of frames back to back, as that part of the buffer.
+#![tactic(auto)]
+
 ghost use mathlib.Core.Path.{◌≡◌};
 ghost use mathlib.Core.Bool.{◌&&◌};
 ghost use lib.Dec.{eqb};
@@ -12,7 +14,7 @@ use syntax::halted;
 
 // The answer of the reading that ended the search for a frame, and the byte that the frame begins at. Under a refusal the frame has no bytes and the byte is 0: the part
 // is empty.
-#[derive(Drop)]
+#[derive(Clone, Copy)]
 pub struct Picked {
     pub answer: Answer,
     pub from: usize,

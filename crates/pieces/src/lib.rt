@@ -1,4 +1,6 @@
 // A stream that is held in pieces: what is wanted of a piece is moved to its front, and more of the stream read behind it.
+#![tactic(auto)]
+
 ghost use mathlib.Core.Path.{◌≡◌};
 ghost use Prim.Native.Nat.{◌-◌, min};
 ghost use Rattle.pieces.specs.Pieces.{Shifted};

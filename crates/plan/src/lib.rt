@@ -1,4 +1,6 @@
 // The mantissas of a block, slot by slot (A/52 clause 5.3.3, TS 102 366 clauses 4.3.3 and E.1.2.4).
+#![tactic(auto)]
+
 ghost use Rattle.std.specs.Prelude.{◌≡◌, cond, ◌&&◌, ◌||◌, not, false, [], ◌+◌, ◌*◌, ◌<◌, ◌≤◌, min, eqb, length, get_or, set};
 ghost use Rattle.reading.specs.Run.{skim, out};
 ghost use Rattle.allocation.specs.Memo.{Tallies};
@@ -14,7 +16,7 @@ use slots::{CPL, LFE, Shape, hybrid, least, range_at, read};
 
 // Where the walk through a block stands: a refusal number, or 0; the place; the tags; the counts of groups; the bits that
 // each slot took.
-#[derive(Drop)]
+#[derive(Clone, Copy)]
 pub struct Taking {
     pub number: u8,
     pub place: BitPlace,
@@ -24,7 +26,7 @@ pub struct Taking {
 }
 
 // A refusal number, or 0; the place; the tags counted and the bits that each slot took, all 0 after a refusal.
-#[derive(Drop)]
+#[derive(Clone, Copy)]
 pub struct Taken {
     pub number: u8,
     pub place: BitPlace,

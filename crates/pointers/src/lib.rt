@@ -1,6 +1,8 @@
 // The pointers of parametric bit allocation, from the masks, and the whole: A/52 clauses 7.2.2 and 7.2.2.7, TS 102 366 clauses 6.2.2
 // and 6.2.2.7. On levels: see the crate `alloc`.
 
+#![tactic(auto)]
+
 ghost use Rattle.std.specs.Prelude.{◌≡◌, ℕ, ◌+◌, ◌-◌, ◌/◌, ◌%◌, ◌<◌, ◌≤◌, max, pos, negsuc, length, get_or, replicate, ◌≤ℤ◌};
 ghost use Rattle.tables.specs.BitAllocation.{bndend, masktab as maskTab, hth as hthTab};
 ghost use Rattle.tables.specs.Bands.{band_of, BinBand};

@@ -1,4 +1,6 @@
 // The positions of a capture that a search tries.
+#![tactic(auto)]
+
 ghost use Rattle.std.specs.Prelude.{◌≡◌, cond, ◌+◌, ◌-◌, ◌*◌, ◌≤◌, min, eqb, leb, ltb, length};
 ghost use Rattle.positions.specs.Passes.{Passes};
 

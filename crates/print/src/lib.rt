@@ -1,5 +1,7 @@
 // Text in a lent buffer, and the one function that writes it to standard output. A function that adds to a text takes the
 // buffer and how many bytes the text has so far, and gives how many it then has. What finds no room is left out.
+#![tactic(auto)]
+
 ghost use Rattle.std.specs.Prelude.{◌≡◌, [], ◌∷◌, ◌++◌, ◌-◌, ◌≤◌, min, nat_abs, length, replicate};
 ghost use Rattle.names.specs.Spelling.{spelling_of, rows};
 ghost use Rattle.print.specs.Text.{decimal_of, signed_of, right_of, Added};

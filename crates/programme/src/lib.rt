@@ -1,4 +1,6 @@
 // The frames of a programme, back to back, with their records in one list.
+#![tactic(auto)]
+
 ghost use mathlib.Core.Path.{◌≡◌};
 ghost use Rattle.eac3.specs.Rooms.{rooms};
 ghost use Rattle.programme.specs.Programme.{ordinal_of, Listed};
@@ -10,7 +12,7 @@ use eac3::{fewest, frame_in, recorded};
 
 // What a programme gives: 0, or the number of the frame that was refused and its place; how many frames were read before, which is the ordinal of the refused one; and the
 // records of the whole list.
-#[derive(Drop)]
+#[derive(Clone, Copy)]
 pub struct Frames {
     pub number: u8,
     pub place: BitPlace,

@@ -1,4 +1,6 @@
 // The entries over a whole programme and over two buffers, for hosts outside: C functions over slices and numbers.
+#![tactic(auto)]
+
 ghost use mathlib.Core.Path.{◌≡◌};
 ghost use Rattle.eac3.specs.Rooms.{rooms};
 ghost use Rattle.programme_c.specs.Given.{ListGiven, PickGiven};

@@ -1,4 +1,6 @@
 // The reads of the recording cursor: elements, spans, and bits inside a span (syntax.rs).
+#![tactic(auto)]
+
 ghost use Rattle.std.specs.Prelude.{◌≡◌, true, cond, List, ℕ, ◌*◌, ◌≤◌, length};
 ghost use Rattle.reading.specs.Room.{room};
 ghost use Rattle.syntax.specs.Records.{part, outcome};
@@ -8,7 +10,7 @@ use bits::{BitPlace, past};
 use syntax::{Cursor, going, halted, keep};
 
 // A cursor and the value that was read, 0 where the cursor is stopped.
-#[derive(Drop)]
+#[derive(Clone, Copy)]
 pub struct Taken {
     pub cursor: Cursor,
     pub value: u32,

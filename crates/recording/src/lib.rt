@@ -1,4 +1,6 @@
 // What a row of input finds, recorded and stored.
+#![tactic(auto)]
+
 ghost use Rattle.reading.specs.Room.{room};
 ghost use Rattle.syntax.specs.Rooms.{Fills};
 ghost use Rattle.recording.specs.Recorded.{Keeps};
@@ -10,7 +12,7 @@ use rows::fields::{block_part, index_of, index_part, keep_of, name_of};
 use syntax::{Cursor, going, halted};
 
 // What a row of input finds: 0 with the place after it, its width, the value that is recorded and the value that is stored; or a refusal and its place.
-#[derive(Drop)]
+#[derive(Clone, Copy)]
 pub struct Look {
     pub number: u8,
     pub place: BitPlace,

@@ -7,6 +7,8 @@
 // slice, the slice, and 69 bytes: the verdict (0 accepted, 1 Invalid, 2 Unsupported, 3 Truncated) and 34 numbers of 2 bytes
 // (specs/Cases.antt). Then 2 bytes, how many further slices there are; of each 2 bytes, 1 where its records are listed and
 // else 0, 2 bytes, its length, and the slice.
+#![tactic(auto)]
+
 mod cases;
 mod sums;
 

@@ -4,6 +4,8 @@
 // Standard input, all numbers of two bytes, high byte first: how many cases there are; of each case how many entries are printed, the
 // room of names, blocks, indexes, first bits, widths and values, the start, the allowance, the length of the capture, and the capture.
 // As a start or an allowance 65,535 stands for the greatest number.
+#![tactic(auto)]
+
 ghost use Rattle.std.specs.Prelude.{◌≤◌};
 
 use answer::Answer;

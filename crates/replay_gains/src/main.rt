@@ -1,6 +1,8 @@
 // Tells the gain range of stored slices, as `gains` tells that of one frame.
 //
 // Standard input, all numbers of two bytes, high byte first: how many cases there are; of each case the room for records, the length of the slice, and the slice.
+#![tactic(auto)]
+
 ghost use Rattle.std.specs.Prelude.{◌≤◌};
 
 use gain_range::{FrameGains, gain_range};

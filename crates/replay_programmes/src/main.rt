@@ -6,6 +6,8 @@
 // Standard input, all numbers of two bytes, high byte first: how many cases there are; of each case 0 for a programme and 1 for a pick,
 // how many entries are printed, the room of names, blocks, indexes, first bits, widths, values and ordinals, the type and the number
 // that are asked for, the length of the first buffer, the buffer, and the same of the second. A programme is the first buffer.
+#![tactic(auto)]
+
 ghost use Prim.Native.Nat.{◌≤◌};
 
 use ingest::cases::{input_pair, length, slice};
@@ -26,7 +28,7 @@ struct Rooms {
 }
 
 // What stands in them.
-#[derive(Drop)]
+#[derive(Clone, Copy)]
 struct Entries {
     names: [u8; 2048],
     blocks: [i8; 2048],

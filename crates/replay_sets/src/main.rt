@@ -3,6 +3,8 @@
 //
 // Standard input, all numbers of two bytes, high byte first: how many cases there are; of each case 1 where its records are
 // listed and else 0, how many places and how many values are lent, 20 places, 20 values, the length of the slice, and the slice.
+#![tactic(auto)]
+
 ghost use Rattle.std.specs.Prelude.{◌≤◌};
 
 use ingest::cases::{input_pair, length, slice};

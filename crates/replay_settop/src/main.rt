@@ -1,6 +1,8 @@
 // Reads stored slices at both entries. Of each case on standard input it prints the answer of the full entry, and that of the settop entry with its records.
 //
 // Standard input, all numbers of two bytes, high byte first: how many cases there are; of each case the room for records, the length of the slice, and the slice.
+#![tactic(auto)]
+
 ghost use Rattle.std.specs.Prelude.{◌≤◌};
 
 use answer::Answer;

@@ -3,6 +3,8 @@
 //
 // Standard input, all numbers of two bytes, high byte first: how many cases there are; of each case 1 where its records are
 // listed and else 0, the place, the value, the length of the slice, and the slice.
+#![tactic(auto)]
+
 use ingest::cases::{input_pair, length, slice};
 use listing::{Records, first_line, text_of};
 use mastering::set_word;

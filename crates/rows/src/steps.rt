@@ -209,7 +209,7 @@ pub fn stop_at(w: u64, at: BitPlace, cells: &[u16; 1024]) -> BitPlace
 }
 
 // What a loop counts: from, up to, in which cell; and how many rows it has.
-#[derive(Drop)]
+#[derive(Clone, Copy)]
 pub struct Loop {
     pub from: u32,
     pub to: u32,

@@ -1,4 +1,6 @@
 // The next frame in a capture: positions are tried in order until one holds a frame.
+#![tactic(auto)]
+
 ghost use Rattle.std.specs.Prelude.{◌≡◌};
 ghost use Rattle.reading.specs.Room.{room};
 ghost use Rattle.search.specs.Find.{ends_by, not_found, Searched};

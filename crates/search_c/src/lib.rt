@@ -1,4 +1,6 @@
 // The entry that finds a frame, for hosts outside: a C function over slices and numbers.
+#![tactic(auto)]
+
 ghost use Rattle.reading.specs.Room.{room};
 ghost use Rattle.search_c.specs.Given.{FoundGiven};
 

@@ -1,4 +1,6 @@
 // The segments of delta bit allocation: A/52 clause 7.2.2.6, TS 102 366 clause 6.2.2.6. On levels: see the crate `alloc`.
+#![tactic(auto)]
+
 ghost use Rattle.std.specs.Prelude.{◌≡◌, ℕ, ◌+◌, ◌<◌, ◌≤◌, length, get_or};
 ghost use Rattle.alloc.specs.Levels.{delta_l, deltaed_l};
 ghost use Rattle.alloc.specs.Premises.{Written};

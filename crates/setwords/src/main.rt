@@ -2,6 +2,8 @@
 // set, to standard output. Each argument is an item: a word by its name, with its block in brackets where it stands in more than
 // one, or by its place in the list, and its value, decimal or behind 0x hexadecimal: dialnorm=27 dynrng[3]=0x80 17=5. Where the
 // words cannot be set a line on standard error says why, and nothing is written.
+#![tactic(auto)]
+
 ghost use Rattle.std.specs.Prelude.{◌≤◌, length};
 
 use answer::{Answer, Verdict};
@@ -13,7 +15,7 @@ use print::{decimal, number, put};
 use word_items::{NO_NAME, NO_NUMBER, Place, last, name_of, number_of, place_of};
 
 // What an item asks for. The fault is 0; 1, it cannot be understood; 2, the frame has no such word; 3, it has more than one.
-#[derive(Drop)]
+#[derive(Clone, Copy)]
 struct Item {
     place: usize,
     word: u32,

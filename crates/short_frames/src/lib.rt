@@ -1,4 +1,6 @@
 // Formats that take short frames only: the test of a frame's size.
+#![tactic(auto)]
+
 ghost use Rattle.std.specs.Prelude.{◌≡◌};
 ghost use Rattle.short_frames.specs.Tested.{unfit_by};
 

@@ -1,4 +1,6 @@
 // The silence rule of bit allocation (A/52 clause 7.2.2.1, TS 102 366 clause 6.2.2.1).
+#![tactic(auto)]
+
 ghost use Rattle.std.specs.Prelude.{◌≡◌, ◌&&◌, ◌||◌, not, eqb};
 ghost use Rattle.silence.specs.Silence.{silent_by};
 

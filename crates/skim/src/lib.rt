@@ -1,11 +1,13 @@
 // Bits inside a span: looked at, not recorded.
+#![tactic(auto)]
+
 ghost use Rattle.std.specs.Prelude.{◌≡◌, ◌-◌, ◌*◌, ◌≤◌, length};
 ghost use Rattle.skim.specs.Outcomes.{look_of};
 
 use bits::{BitPlace, get, past};
 
 // Bits and the place after them, or that they pass the frame's end.
-#[derive(Drop)]
+#[derive(Clone, Copy)]
 pub enum Look {
     Past,
     Found(u32, BitPlace),

@@ -1,5 +1,7 @@
 // The bits of the slots of a frame, as a table: a line for each block, one for the sums over the blocks, and one for each slot's
 // share of the frame in per cent; a column for the coupling channel, each full bandwidth channel and the LFE channel, and their sum.
+#![tactic(auto)]
+
 ghost use Rattle.std.specs.Prelude.{◌≡◌, ◌<◌, ◌≤◌, min, length};
 ghost use Rattle.print.specs.Text.{Added, Holds};
 ghost use Rattle.answer.specs.Answer.{bits_in};
@@ -12,7 +14,7 @@ use print::{decimal, put, right};
 use slots::{CPL, LFE};
 
 // What a cell shows of some bits: their number, or their share of a frame.
-#[derive(Drop)]
+#[derive(Clone, Copy)]
 pub enum Shows {
     Bits,
     Share(ByteCount),

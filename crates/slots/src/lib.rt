@@ -1,5 +1,7 @@
 // The slots of a block: what it looks like, and which bins a slot has (A/52 clause 5.3.3, TS 102 366 clauses
 // 4.3.3 and E.1.2.4). The slots are the five full bandwidth channels, the coupling channel and the LFE channel.
+#![tactic(auto)]
+
 ghost use Rattle.std.specs.Prelude.{◌≡◌, false, ◌<◌, ◌≤◌, min, get_or};
 ghost use Rattle.slots.specs.Slots.{range_of, used_of, read_of, requested_of};
 
@@ -9,7 +11,7 @@ pub const LFE: u8 = 6;
 
 // What a block looks like: its channels, whether it has coupling and LFE, which channels are coupled,
 // which slots have the adaptive hybrid transform and which of these are read, and where the bins end.
-#[derive(Drop)]
+#[derive(Clone, Copy)]
 pub struct Shape {
     pub nfchans: u8,
     pub lfeon: bool,
@@ -23,7 +25,7 @@ pub struct Shape {
 }
 
 // The bins `start` to `end` - 1.
-#[derive(Drop)]
+#[derive(Clone, Copy)]
 pub struct Range {
     pub start: u16,
     pub end: u16,

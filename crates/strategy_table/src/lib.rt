@@ -1,5 +1,7 @@
 // The exponent strategies of a frame, as a table: a row for each block, a column for the coupling
 // channel, for each full bandwidth channel and for the LFE channel. A dash stands where there is none.
+#![tactic(auto)]
+
 mod found;
 mod grid;
 

@@ -1,5 +1,7 @@
 // The cursor, and the recording leaf (syntax.rs). Records go into six lent slices side by side, as many as the shortest of
 // them has room for.
+#![tactic(auto)]
+
 ghost use Rattle.std.specs.Prelude.{◌≡◌, min};
 ghost use Rattle.reading.specs.Run.{field_of};
 ghost use Rattle.reading.specs.Room.{room};
@@ -8,7 +10,7 @@ ghost use Rattle.syntax.specs.Records.{part, outcome, halted_at, going_at, recor
 use bits::BitPlace;
 
 // Where a reading stands: the next bit, the number of records, and the refusal that stopped it.
-#[derive(Drop)]
+#[derive(Clone, Copy)]
 pub struct Cursor {
     pub at: BitPlace,
     pub count: usize,

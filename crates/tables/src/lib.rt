@@ -1,6 +1,8 @@
 // The constant tables of the reader. Each function hands out a table whole, for its caller to hold and to lend, or
 // one entry of a small table by its code.
 
+#![tactic(auto)]
+
 mod bitalloc_tables;
 mod small_tables;
 

@@ -1,4 +1,6 @@
 // What the rows of a frame's tail begin with.
+#![tactic(auto)]
+
 ghost use Rattle.std.specs.Prelude.{◌≡◌, ◌-◌, ◌*◌, ◌≤◌, length};
 ghost use Rattle.bits.specs.Bits.{bits_at};
 ghost use Rattle.cells.specs.Cells.{put_in};

@@ -1,4 +1,6 @@
 // The records of a frame's tail, laid into the rooms behind those of the frame before its audio end.
+#![tactic(auto)]
+
 ghost use mathlib.Core.Path.{◌≡◌};
 ghost use mathlib.Core.Bool.{◌&&◌};
 ghost use Prim.Native.Nat.{◌+◌, ◌*◌, ◌≤◌, ◌<◌};
@@ -14,7 +16,7 @@ use bits::{BitPlace, ByteCount, bits_at};
 use names::numbers::{AUXBITS, AUXDATAE, AUXDATAL, CRC2, ENCINFO};
 
 // A record of the tail. It stands in no block and has no index.
-#[derive(Drop)]
+#[derive(Clone, Copy)]
 pub struct TailRecord {
     pub name: u8,
     pub first: BitPlace,

@@ -1,4 +1,6 @@
 // A toy syntax, with every kind of row: its table, and the entry.
+#![tactic(auto)]
+
 pub mod table;
 
 ghost use Rattle.std.specs.Prelude.{◌≡◌, ◌≤◌, ◌*◌, length};

@@ -1,5 +1,7 @@
 // Reads toy frames from standard input, each after a byte that tells its length, and writes the answer and
 // the records of each: first bit, width, name, block, index, value.
+#![tactic(auto)]
+
 ghost use Rattle.std.specs.Prelude.{◌<◌, ◌≤◌};
 
 use libc::STDIN_FILENO;

@@ -1,4 +1,6 @@
 // A bitstream syntax, run by a lent table of rows: one loop over the rows, and one over the turns of a loop.
+#![tactic(auto)]
+
 ghost use Rattle.std.specs.Prelude.{◌≡◌};
 ghost use Rattle.reading.specs.Room.{room};
 ghost use Rattle.slots.specs.Held.{bins};

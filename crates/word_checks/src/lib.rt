@@ -1,4 +1,6 @@
 // Whether loudness words may be set, by their places in a list of records.
+#![tactic(auto)]
+
 ghost use mathlib.Core.Path.{◌≡◌};
 ghost use mathlib.Core.Bool.{cond, ◌||◌};
 ghost use Prim.Native.Nat.{◌≤◌, ◌<◌};

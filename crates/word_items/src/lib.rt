@@ -1,4 +1,6 @@
 // Items as text: a word by its name, with its block where it repeats, or by its place in the list; and its value.
+#![tactic(auto)]
+
 ghost use Rattle.std.specs.Prelude.{◌≡◌, cond, ◌&&◌, ◌+◌, ◌≤◌, ◌<◌, eqb, leb, length};
 ghost use Rattle.word_items.specs.Items.{last_to, same_to, spells, name_of, digit_of, behind, value_to, number_of, marks_hex, is_meant, meant_to, place_of};
 
@@ -11,7 +13,7 @@ pub const NO_NUMBER: u64 = 0x100000000;
 pub const NO_NAME: u8 = 255;
 
 // Where a word stands in a list.
-#[derive(Drop)]
+#[derive(Clone, Copy)]
 pub enum Place {
     At(usize),
     Nowhere,

@@ -1,5 +1,7 @@
 // The six loudness words of a frame: dialnorm, dialnorm2, compr, compr2, dynrng and dynrng2. Which names are words, what a
 // word holds, and a word written into a lent frame.
+#![tactic(auto)]
+
 ghost use Rattle.std.specs.Prelude.{◌≡◌, ◌||◌, ◌+◌, ◌*◌, ◌/◌, ◌^◌, ◌≤◌, ◌<◌, eqb, length};
 ghost use Rattle.names.specs.Names.{dialnorm, dialnorm2, compr, compr2, dynrng, dynrng2};
 ghost use Rattle.words.specs.Words.{width_of, unfit_of, with_word};
