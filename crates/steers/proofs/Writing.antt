@@ -101,7 +101,7 @@ value_keeps (a ∷ es) zero zero v c g =
 value_keeps (a ∷ es) zero (suc j) v c g = record { now = c; at = g; name = refl; first = refl; width = refl; spans = refl }
 value_keeps (a ∷ es) (suc i) zero v c g = record { now = c; at = g; name = refl; first = refl; width = refl; spans = refl }
 value_keeps (a ∷ es) (suc i) (suc j) v c g =
-    let k = value_keeps es i j v c g in record { now = k.now; at = k.at; name = k.ghost_name; first = k.first; width = k.width; spans = k.spans }
+    let k = value_keeps es i j v c g in record { now = k.now; at = k.at; name = k.name; first = k.first; width = k.width; spans = k.spans }
 
 -- what holds of every record of a list holds of the record at a place
 all-at : (P : Entry → Type 0) (es : List Entry) → All P es → (j : ℕ) (e : Entry) → get_elem? es j ≡ some e → P e
@@ -206,7 +206,7 @@ module _ (N : ℕ → Bool) where
         ∙ ap (out o.result o.place)
         (reread-two N i j y es 0
         ∙ ap (reread_in (one N j) 0 y) (reread-at N i e w.named.0 y s es 0 i (sym (zero-add i)) w.one)
-        ∙ reread-at N j d.now (ap N d.ghost_name ∙ w.named.1) y (d.spans ∙ t) (with_value_at i (bits_in y e) es) 0 j (sym (zero-add j)) d.at
+        ∙ reread-at N j d.now (ap N d.name ∙ w.named.1) y (d.spans ∙ t) (with_value_at i (bits_in y e) es) 0 j (sym (zero-add j)) d.at
         ∙ ap (λ v. with_value_at j v (with_value_at i (bits_in y e) es)) (ap₂ (bits_at y) d.first d.width))
 
     fills : (x y : List ℕ) (m : Room) (i j : ℕ) (e c : Entry) → Writes N F x y (size m) i j e c

@@ -1,0 +1,8 @@
+use mathlib.Core.Path.{refl}
+use Rattle.answer.proofs.count_of.Goals as goal
+
+pub returns-in-Accepted : goal.returns-in-Accepted
+returns-in-Accepted c = rw c.enum_told-1.given.1 refl
+
+pub returns-in-Refused : goal.returns-in-Refused
+returns-in-Refused c = rw c.v-1.given.1 refl

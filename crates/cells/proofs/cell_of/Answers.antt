@@ -1,0 +1,11 @@
+use Rattle.cells.specs.Cells.{cell_of}
+use borrow.Author.Tests.{eq-eqb, ne_eqb}
+use Rattle.cells.proofs.cell_of.Goals as goal
+
+pub returns-then-i-eq0 : goal.returns-then-i-eq0
+unfolding cell_of
+returns-then-i-eq0 c = rw (eq-eqb _ _ c.if-i-eq0.true)
+
+pub returns-else-i-eq0 : goal.returns-else-i-eq0
+unfolding cell_of
+returns-else-i-eq0 c = rw (ne_eqb _ _ c.if-i-eq0.false)

@@ -1,0 +1,12 @@
+use Prim.Native.Nat.{◌+◌, ◌-◌, ◌≤◌}
+use Rattle.cells.specs.Cells.{put_in}
+use Rattle.sideinfo.specs.Steps.{each_of}
+use lib.ListN.{get_or, length}
+use mathlib.Core.Path.{◌≡◌}
+use Rattle.derivations.proofs.allocating.put_all.Given as goal
+
+abbrev pub invariant-loop-i : goal.invariant-loop-i
+invariant-loop-i l = (l.i ≤ length l.vs) × (l.cells ≡ each_of (λ l.i x. put_in x (l.k + l.i) (get_or l.vs l.i 0)) l.i l.initial.cells)
+
+abbrev pub decreases-loop-i : goal.decreases-loop-i
+decreases-loop-i l = length l.vs - l.i

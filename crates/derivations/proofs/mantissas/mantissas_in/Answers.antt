@@ -1,0 +1,7 @@
+use Rattle.derivations.specs.Mantissas.{mantissas_in}
+use mathlib.Core.Path.{◌∙◌}
+use Rattle.derivations.proofs.mantissas.mantissas_in.Goals as goal
+
+pub returns : goal.returns
+unfolding mantissas_in
+returns c = λ e. c.mantissas.ensures.0 ∙ rw c.shape_of.ensures

@@ -1,0 +1,12 @@
+-- By the cases.
+use Rattle.std.proofs.Common.{refl}
+use Rattle.replay.specs.Cases.{verdict_of}
+use Rattle.replay.proofs.cases.verdict_of.Goals as goal
+
+pub returns-in-Accepted : goal.returns-in-Accepted
+unfolding verdict_of
+returns-in-Accepted c = rw c.enum_told-1.given.1 refl
+
+pub returns-in-Refused : goal.returns-in-Refused
+unfolding verdict_of
+returns-in-Refused c = rw c.v-1.given.1 c.kind.ensures

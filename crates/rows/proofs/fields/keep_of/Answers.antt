@@ -1,0 +1,13 @@
+use Rattle.rows.specs.Rows.{keep_in}
+use Rattle.rows.proofs.StepLaws.{no-counters}
+use native.Mathlib.Omega.{arith}
+use borrow.Author.Tests.{eq-eqb, ne_eqb}
+use Rattle.rows.proofs.fields.keep_of.Goals as goal
+
+pub returns-then-w-eq0 : goal.returns-then-w-eq0
+unfolding keep_in
+returns-then-w-eq0 c = (rw (eq-eqb _ _ c.if-w-eq0.true) (no-counters _ _), omega arith)
+
+pub returns : goal.returns
+unfolding keep_in
+returns c = (rw (ne_eqb _ _ c.if-w-eq0.false, c.spot.ensures.0), c.spot.ensures.1)

@@ -1,0 +1,10 @@
+use Prim.Native.Nat.{◌-◌, ◌≤◌}
+use Rattle.sideinfo.specs.Blocks.{endmants_of}
+use mathlib.Core.Path.{◌≡◌}
+use Rattle.sideinfo.proofs.blocks.ends.Given as goal
+
+abbrev pub invariant-loop-ch : goal.invariant-loop-ch
+invariant-loop-ch l = (l.ch ≤ l.n) × (l.cells ≡ endmants_of l.ch l.initial.cells)
+
+abbrev pub decreases-loop-ch : goal.decreases-loop-ch
+decreases-loop-ch l = l.n - l.ch
