@@ -6,7 +6,7 @@ use mathlib.Core.Path.{◌≡◌}
 use Rattle.derivations.proofs.allocating.many_bytes.Given as goal
 
 abbrev pub invariant-loop-i : goal.invariant-loop-i
-invariant-loop-i l = (l.i ≤ 48) × (l.a ≡ each_of (λ l.i l.a. set l.a l.i (cell_of l.cells (l.k + l.i) % 256)) l.i (replicate 48 0))
+invariant-loop-i l = (l.i ≤ 48) × (l.a ≡ each_of (λ i a. set a i (cell_of l.cells (l.k + i) % 256)) l.i (replicate 48 0))
 
 abbrev pub decreases-loop-i : goal.decreases-loop-i
 decreases-loop-i l = 48 - l.i

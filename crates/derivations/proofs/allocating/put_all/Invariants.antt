@@ -6,7 +6,7 @@ use mathlib.Core.Path.{◌≡◌}
 use Rattle.derivations.proofs.allocating.put_all.Given as goal
 
 abbrev pub invariant-loop-i : goal.invariant-loop-i
-invariant-loop-i l = (l.i ≤ length l.vs) × (l.cells ≡ each_of (λ l.i x. put_in x (l.k + l.i) (get_or l.vs l.i 0)) l.i l.initial.cells)
+invariant-loop-i l = (l.i ≤ length l.vs) × (l.cells ≡ each_of (λ i x. put_in x (l.k + i) (get_or l.vs i 0)) l.i l.initial.cells)
 
 abbrev pub decreases-loop-i : goal.decreases-loop-i
 decreases-loop-i l = length l.vs - l.i

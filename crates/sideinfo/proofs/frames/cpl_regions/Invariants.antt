@@ -8,7 +8,7 @@ use mathlib.Core.Path.{◌≡◌}
 use Rattle.sideinfo.proofs.frames.cpl_regions.Given as goal
 
 abbrev pub invariant-loop-i : goal.invariant-loop-i
-invariant-loop-i l = (l.i ≤ 6) × (l.sum ≤ l.i) × (l.sum ≡ sum_of (λ l.i. cond (eqb (cell_of l.cells (CPLSTRE + l.i)) 1 || not (eqb (cell_of l.cells (CPLEXPSTR + l.i)) 0)) 1 0) l.i)
+invariant-loop-i l = (l.i ≤ 6) × (l.sum ≤ l.i) × (l.sum ≡ sum_of (λ i. cond (eqb (cell_of l.cells (CPLSTRE + i)) 1 || not (eqb (cell_of l.cells (CPLEXPSTR + i)) 0)) 1 0) l.i)
 
 abbrev pub decreases-loop-i : goal.decreases-loop-i
 decreases-loop-i l = 6 - l.i

@@ -7,7 +7,7 @@ use mathlib.Core.Path.{◌≡◌}
 use Rattle.sideinfo.proofs.frames.nchregs.Given as goal
 
 abbrev pub invariant-loop-ch : goal.invariant-loop-ch
-invariant-loop-ch l = (l.ch ≤ 5) × (l.cells ≡ each_of (λ l.ch x. put_in x (NCHREGS + l.ch) (regions_from x (CHEXPSTR + l.ch) 8)) l.ch l.initial.cells)
+invariant-loop-ch l = (l.ch ≤ 5) × (l.cells ≡ each_of (λ ch x. put_in x (NCHREGS + ch) (regions_from x (CHEXPSTR + ch) 8)) l.ch l.initial.cells)
 
 abbrev pub decreases-loop-ch : goal.decreases-loop-ch
 decreases-loop-ch l = 5 - l.ch

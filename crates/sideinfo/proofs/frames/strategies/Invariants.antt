@@ -7,7 +7,7 @@ use mathlib.Core.Path.{◌≡◌}
 use Rattle.sideinfo.proofs.frames.strategies.Given as goal
 
 abbrev pub invariant-loop-i : goal.invariant-loop-i
-invariant-loop-i l = (l.i ≤ 6) × (l.cells ≡ each_of (λ l.i x. put_in x (l.k + l.d * l.i) (get_or frmexpstr (6 * l.code + l.i) 0)) l.i l.initial.cells)
+invariant-loop-i l = (l.i ≤ 6) × (l.cells ≡ each_of (λ i x. put_in x (l.k + l.d * i) (get_or frmexpstr (6 * l.code + i) 0)) l.i l.initial.cells)
 
 abbrev pub decreases-loop-i : goal.decreases-loop-i
 decreases-loop-i l = 6 - l.i
