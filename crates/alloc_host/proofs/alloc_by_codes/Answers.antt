@@ -16,7 +16,7 @@ pub allocate-requires : goal.allocate-requires
 allocate-requires c =
     let codes = c.args.codes.now in
     let p = c.requires in
-    let r = p.1.2 in
+    let r = p.end_bound.2 in
     let l = leak-low (eqb (get_or codes 11 0) 1) (get_or codes 9 0) (get_or codes 10 0) r.cplfleak r.cplsleak in (
       record {
         log = c.log_add-latab.ensures;
@@ -26,11 +26,11 @@ allocate-requires c =
         points = c.pointers-points.ensures;
       },
       (
-        rw c.channel_of-c.ensures p.0,
+        rw c.channel_of-c.ensures p.exponents,
         (
           (
             record {
-              within = rw c.channel_of-c.ensures p.1.0;
+              within = rw c.channel_of-c.ensures p.end_bound.0;
               fgain = rw c.channel_of-c.ensures (fastgain-high (get_or codes 6 0));
               fast = rw c.leak_by-l.ensures l.0;
               slow = rw c.leak_by-l.ensures l.1;
@@ -45,4 +45,4 @@ allocate-requires c =
 
 pub returns : goal.returns
 returns c =
-    rw (c.pointers_of-k.ensures, c.channel_of-c.ensures, c.params_by-p.ensures, c.leak_by-l.ensures, c.deltas_of-d.ensures) at c.allocate.ensures.0
+    rw (c.pointers_of-k.ensures, c.channel_of-c.ensures, c.params_by-p.ensures, c.leak_by-l.ensures, c.deltas_of-d.ensures) at c.allocate.ensures.out_after

@@ -5,7 +5,7 @@ use Rattle.allocation.proofs.MemoLaws.{common-coded, points-are, points-done}
 use Rattle.allocation.proofs.allocate_block.Goals as goal
 
 pub returns-in_default : goal.returns-in_default
-returns-in_default c = (never-sent _ _ _ _ _ _ _ refl c.enum_told-1.given.1, c.requires.2)
+returns-in_default c = (never-sent _ _ _ _ _ _ _ refl c.in_default.is, c.requires.2)
 
 pub first_stale-first-requires : goal.first_stale-first-requires
 first_stale-first-requires c = (c.requires.2.tallies.size, c.own_words-own.ensures.size)

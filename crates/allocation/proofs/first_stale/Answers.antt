@@ -23,7 +23,7 @@ pub loop-slot-smaller : goal.loop-slot-smaller
 loop-slot-smaller c = omega (arith, c.loop-slot-test.true)
 
 pub loop-slot-preserved : goal.loop-slot-preserved
-loop-slot-preserved c = passes_on _ _ _ _ _ _ _ c.loop-slot.invariant c.loop-slot-test.true _ c.source_of-s.ensures _ c.kept.ensures (not-false _ c.if-not-kept.false)
+loop-slot-preserved c = passes_on _ _ _ _ _ _ _ c.loop-slot.invariant c.loop-slot-test.true _ c.source_of-s.ensures _ c.kept.ensures (c.if-not-kept.false)
 
 pub returns : goal.returns
 returns c = c.loop-slot.invariant

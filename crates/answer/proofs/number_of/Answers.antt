@@ -2,7 +2,7 @@ use mathlib.Core.Path.{refl}
 use Rattle.answer.proofs.number_of.Goals as goal
 
 pub returns-in-Accepted : goal.returns-in-Accepted
-returns-in-Accepted c = rw c.enum_told-1.given.1 refl
+returns-in-Accepted c = rw c.in-Accepted.is refl
 
 pub returns-in-Refused : goal.returns-in-Refused
-returns-in-Refused c = rw c.v-1.given.1 refl
+returns-in-Refused c = rw c.in-Refused.is refl

@@ -9,56 +9,56 @@ use Rattle.band_sums.proofs.Sums.{band-high, band-opens, sums_none, sums-more, p
 use Rattle.band_sums.proofs.bands.Goals as goal
 
 pub bounds-exps-start : goal.bounds-exps-start
-bounds-exps-start c = omega (arith, c.requires.1.2.size, c.requires.1.0, c.requires.1.1)
+bounds-exps-start c = omega (arith, c.requires.start_lt_end.2.size, c.requires.start_lt_end.0, c.requires.start_lt_end.1)
 
 pub below-requires : goal.below-requires
-below-requires c = c.requires.1.2.low _ (omega arith) c.requires.1.0
+below-requires c = c.requires.start_lt_end.2.low _ (omega arith) c.requires.start_lt_end.0
 
 pub bounds-powers-start : goal.bounds-powers-start
-bounds-powers-start c = omega (arith, c.requires.1.0, c.requires.1.1)
+bounds-powers-start c = omega (arith, c.requires.start_lt_end.0, c.requires.start_lt_end.1)
 
 pub power-s-requires : goal.power-s-requires
-power-s-requires c = c.requires.1.2.low _ (omega arith) c.requires.1.0
+power-s-requires c = c.requires.start_lt_end.2.low _ (omega arith) c.requires.start_lt_end.0
 
 pub end_of-to-requires : goal.end_of-to-requires
 end_of-to-requires c =
-    (c.requires.0.1, omega (arith, c.requires.1.3, (own-band c.args.start (omega (arith, c.requires.1.0, c.requires.1.1))).is))
+    (c.requires.latab_value.1, omega (arith, c.requires.start_lt_end.3, (own-band c.args.start (omega (arith, c.requires.start_lt_end.0, c.requires.start_lt_end.1))).is))
 
 pub overflow_add-j : goal.overflow_add-j
-overflow_add-j c = omega (arith, c.requires.1.0, c.requires.1.1)
+overflow_add-j c = omega (arith, c.requires.start_lt_end.0, c.requires.start_lt_end.1)
 
 pub loop-j-init : goal.loop-j-init
 loop-j-init c =
     let a = c.args in
     let p = c.requires in
     let z : a.start + 1 - 1 ≡ a.start = omega arith in
-    let b = own-band a.start (omega (arith, p.1.0, p.1.1)) in
-    let f = p.1.3 in
+    let b = own-band a.start (omega (arith, p.start_lt_end.0, p.start_lt_end.1)) in
+    let f = p.start_lt_end.3 in
     let s = c.power-s.ensures ∙ band-opens a.exps.now a.start a.start _ b (omega (arith, b.from)) in (
       omega arith,
-      omega (arith, p.1.0),
+      omega (arith, p.start_lt_end.0),
       rw (z, f) b,
       c.end_of-to.ensures,
       rw f s,
-      simp length-set (ap length p.0.2),
-      ap length p.0.3,
-      ap (λ l. set l a.start c.below.result) (p.0.2 ∙ powers-none a.exps.now a.start)
-          ∙ powers-more a.exps.now a.start a.start c.below.result (omega arith) (omega (arith, p.1.0, p.1.1)) c.below.ensures,
-      rw f (ap (λ l. set l (band_of a.start) c.power-s.result) (p.0.3 ∙ sums_none a.exps.now a.start)
+      simp length-set (ap length p.latab_value.2),
+      ap length p.latab_value.3,
+      ap (λ l. set l a.start c.below.result) (p.latab_value.2 ∙ powers-none a.exps.now a.start)
+          ∙ powers-more a.exps.now a.start a.start c.below.result (omega arith) (omega (arith, p.start_lt_end.0, p.start_lt_end.1)) c.below.ensures,
+      rw f (ap (λ l. set l (band_of a.start) c.power-s.result) (p.latab_value.3 ∙ sums_none a.exps.now a.start)
           ∙ sums-more a.exps.now a.start a.start _ c.power-s.result b s),
     )
 
 pub bounds-exps-j : goal.bounds-exps-j
-bounds-exps-j c = omega (arith, c.requires.1.2.size, c.requires.1.1)
+bounds-exps-j c = omega (arith, c.requires.start_lt_end.2.size, c.requires.start_lt_end.1)
 
 pub below-requires-in-loop-j : goal.below-requires-in-loop-j
-below-requires-in-loop-j c = c.requires.1.2.low _ (omega (arith, c.loop-j.invariant.0)) (omega (arith, c.loop-j-test.true, c.requires.1.0))
+below-requires-in-loop-j c = c.requires.start_lt_end.2.low _ (omega (arith, c.loop-j.invariant.0)) (omega (arith, c.loop-j-test.true, c.requires.start_lt_end.0))
 
 pub bounds-powers-j : goal.bounds-powers-j
-bounds-powers-j c = omega (arith, c.loop-j-test.true, c.requires.1.1)
+bounds-powers-j c = omega (arith, c.loop-j-test.true, c.requires.start_lt_end.1)
 
 pub power-p-requires : goal.power-p-requires
-power-p-requires c = c.requires.1.2.low _ (omega (arith, c.loop-j.invariant.0)) (omega (arith, c.loop-j-test.true, c.requires.1.0))
+power-p-requires c = c.requires.start_lt_end.2.low _ (omega (arith, c.loop-j.invariant.0)) (omega (arith, c.loop-j-test.true, c.requires.start_lt_end.0))
 
 pub offset_bounds-bnd-k : goal.offset_bounds-bnd-k
 offset_bounds-bnd-k c = omega (arith, c.loop-j.invariant.2.is)
@@ -72,15 +72,15 @@ overflow_add-k c = omega (arith, c.loop-j.invariant.2.is)
 pub end_of-to-requires-then-j-to : goal.end_of-to-requires-then-j-to
 end_of-to-requires-then-j-to c =
     let i = c.loop-j.invariant in
-    (c.requires.0.1, (next-bin c.args.exps.now c.args.start c.loop-j.j c.loop-j.k c.loop-j.to c.loop-j.s c.loop-j.bnd i.0 (omega (arith, c.loop-j-test.true, c.requires.1.1)) i.2 i.3 i.4 i.8 (omega (arith, c.if-j-to.true))).is)
+    (c.requires.latab_value.1, (next-bin c.args.exps.now c.args.start c.loop-j.j c.loop-j.k c.loop-j.to c.loop-j.s c.loop-j.bnd i.0 (omega (arith, c.loop-j-test.true, c.requires.start_lt_end.1)) i.2 i.3 i.4 i.8 (omega (arith, c.if-j-to.true))).is)
 
 pub logadd-s-requires : goal.logadd-s-requires
 logadd-s-requires c =
     let i = c.loop-j.invariant in
-    (c.requires.0.0, omega (arith, i.4, band-high c.args.exps.now c.args.start c.loop-j.j c.loop-j.k (omega (arith, i.1, c.requires.1.1))), omega (arith, c.power-p.ensures))
+    (c.requires.latab_value.0, omega (arith, i.4, band-high c.args.exps.now c.args.start c.loop-j.j c.loop-j.k (omega (arith, i.1, c.requires.start_lt_end.1))), omega (arith, c.power-p.ensures))
 
 pub overflow_add-j-in-loop-j : goal.overflow_add-j-in-loop-j
-overflow_add-j-in-loop-j c = omega (arith, c.loop-j-test.true, c.requires.1.1)
+overflow_add-j-in-loop-j c = omega (arith, c.loop-j-test.true, c.requires.start_lt_end.1)
 
 pub loop-j-smaller : goal.loop-j-smaller
 loop-j-smaller c = omega (arith, c.loop-j-test.true)
@@ -91,7 +91,7 @@ loop-j-preserved c =
     let i = c.loop-j.invariant in
     let j = c.loop-j.j in
     let h = c.loop-j-test.true in
-    let low : j < 253 = omega (arith, c.requires.1.1) in
+    let low : j < 253 = omega (arith, c.requires.start_lt_end.1) in
     let z : j + 1 - 1 ≡ j = omega arith in
     let size : length (set c.loop-j.powers j c.below-in-loop-j.result) ≡ 256 = simp length-set i.5 in
     let powers =

@@ -70,5 +70,5 @@ returns c =
     record {
       bins = _;
       is = tail-follows _ _ _ _ _ c.if-cur.false (c.requires.small c.if-cur.false) _ c.bytes_of-bytes.ensures.0 _ c.unfit-number.ensures c.if-number-gt0.false _ c.bits-limit.ensures c.each-c.result _ _ (turned-once c.each-c.ensures body c.requires.annexed.bodied) c.if-c.false c.each.result _
-          (tail-outcome _ _ _ (omega (arith, c.bits-limit.ensures, c.bytes_of-bytes.ensures.1)) (omega (arith, c.each-c.type-inv)) _ refl _ _ _ c.each.result _ _ _ _ c.tail_cells-ends.ensures (turned-once c.each.ensures tail c.requires.annexed.tailed));
+          (tail-outcome _ _ _ (omega (arith, c.bits-limit.ensures, c.bytes_of-bytes.ensures.1)) (omega (arith, c.each-c.type_inv)) _ refl _ _ _ c.each.result _ _ _ _ c.tail_cells-ends.ensures (turned-once c.each.ensures tail c.requires.annexed.tailed));
     }

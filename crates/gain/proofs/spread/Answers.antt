@@ -10,7 +10,6 @@ returns-then-e-eq0 c = rw c.if-e-eq0.true
 
 pub returns : goal.returns
 returns c =
-    let at = c.before in
     let low = c.factor.ensures.nearest in
     let high = c.factor-2.ensures.nearest in
-    rw (ne_eqb _ _ at.if1.false) (cc (low, high, c.turned.ensures, c.turned-2.ensures))
+    rw (ne_eqb _ _ c.if-e-eq0.false) (cc (low, high, c.turned.ensures, c.turned-2.ensures))

@@ -23,34 +23,30 @@ loop-b-init c = (search rules, search rules, refl)
 
 pub returns-then-lfe_last : goal.returns-then-lfe_last
 returns-then-lfe_last c =
-    let at = c.before in
-    let bnd = at.before.args.bnd.now in
-    let e = at.before.args.last in
-    let b = at.loop.b in
+    let bnd = c.args.bnd.now in
+    let e = c.args.last in
+    let b = c.loop-b.b in
     let l : lfe_last e b ≡ true = sym c.lfe_last.ensures ∙ c.if-lfe_last.true in
-    (sym (at.loop.invariant.2 ∙ on bnd e b (omega arith) ∙ simp l), omega arith)
+    (sym (c.loop-b.invariant.2 ∙ on bnd e b (omega arith) ∙ simp l), omega arith)
 
 pub returns-then-p-q : goal.returns-then-p-q
 returns-then-p-q c =
-    let at = c.before in
-    let bnd = at.before.args.bnd.now in
-    let e = at.before.args.last in
-    let b = at.loop.b in
+    let bnd = c.args.bnd.now in
+    let e = c.args.last in
+    let b = c.loop-b.b in
     let l : lfe_last e b ≡ false = sym c.lfe_last.ensures ∙ c.if-lfe_last.false in
-    (sym (at.loop.invariant.2 ∙ on bnd e b (omega arith) ∙ simp (l, le-leb _ _ c.if-p-q.true)), omega arith)
+    (sym (c.loop-b.invariant.2 ∙ on bnd e b (omega arith) ∙ simp (l, le-leb _ _ c.if-p-q.true)), omega arith)
 
 pub loop-b-preserved : goal.loop-b-preserved
 loop-b-preserved c =
-    let at = c.before in
-    let bnd = at.before.args.bnd.now in
-    let e = at.before.args.last in
-    let b = at.loop.b in
+    let bnd = c.args.bnd.now in
+    let e = c.args.last in
+    let b = c.loop-b.b in
     let l : lfe_last e b ≡ false = sym c.lfe_last.ensures ∙ c.if-lfe_last.false in
-    (search rules, search rules, at.loop.invariant.2 ∙ on bnd e b (omega arith) ∙ simp (l, lt-leb _ _ c.if-p-q.false))
+    (search rules, search rules, c.loop-b.invariant.2 ∙ on bnd e b (omega arith) ∙ simp (l, lt-leb _ _ c.if-p-q.false))
 
 pub returns : goal.returns
 unfolding decay_from_l
 returns c =
-    let at = c.before in
-    let e : at.loop.b ≡ 7 = omega arith in
-    (e ∙ sym (at.loop.invariant.2 ∙ rw e), omega arith)
+    let e : c.loop-b.b ≡ 7 = omega arith in
+    (e ∙ sym (c.loop-b.invariant.2 ∙ rw e), omega arith)

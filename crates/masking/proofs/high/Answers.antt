@@ -11,10 +11,10 @@ use Rattle.masking.proofs.high.Goals as goal
 pub loop-b-init : goal.loop-b-init
 loop-b-init c =
     let a = c.args in
-    (search rules, c.requires.0.4, excites-none a.bnd.now a.g a.first a.last a.from a.s a.out.now, c.requires.1.2)
+    (search rules, c.requires.from_le_last.4, excites-none a.bnd.now a.g a.first a.last a.from a.s a.out.now, c.requires.by_index.2)
 
 pub pass_high-t-requires : goal.pass_high-t-requires
-pass_high-t-requires c = (omega (arith, c.requires.0.1), c.requires.1.0, c.requires.1.1, c.loop-b.invariant.3)
+pass_high-t-requires c = (omega (arith, c.requires.from_le_last.1), c.requires.by_index.0, c.requires.by_index.1, c.loop-b.invariant.3)
 
 pub loop-b-preserved : goal.loop-b-preserved
 loop-b-preserved c =
@@ -22,8 +22,8 @@ loop-b-preserved c =
     let b = c.loop-b.b in
     let s = c.pass_high-t.result in
     let up = c.loop-b.invariant.2.up in
-    let h : begin_l a.bnd.now a.first a.last ≤ b = omega (arith, c.requires.0.2 (omega arith)) in
-    let n : a.first ≡ 0 → 22 ≤ b = λ z. omega (arith, c.requires.0.3 (omega arith) z) in
+    let h : begin_l a.bnd.now a.first a.last ≤ b = omega (arith, c.requires.from_le_last.2 (omega arith)) in
+    let n : a.first ≡ 0 → 22 ≤ b = λ z. omega (arith, c.requires.from_le_last.3 (omega arith) z) in
     let next = c.pass_high-t.ensures.0 a.first a.last (begin_l a.bnd.now a.first a.last) h n in
     let z = next.low ∙ low-none a.bnd.now a.first a.last c.loop-b.t.low b n in
     let m : max s.fast s.slow ≡ max (s.fast - s.low) s.slow = omega arith in (

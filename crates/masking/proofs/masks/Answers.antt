@@ -6,21 +6,21 @@ use Rattle.masking.proofs.masks.Goals as goal
 
 pub excite-requires : goal.excite-requires
 excite-requires c =
-    let p = c.requires.0 in
-    ((p.1, p.2, p.3, ap length c.requires.1.3), (p.4, c.requires.1.4, c.requires.1.0))
+    let p = c.requires.hth_value in
+    ((p.1, p.2, p.3, ap length c.requires.leaking.3), (p.4, c.requires.leaking.4, c.requires.leaking.0))
 
 pub mask_bands-requires : goal.mask_bands-requires
 mask_bands-requires c =
     let a = c.args in
     let p = c.requires in
     let w = c.excite.ensures in
-    (p.0.0, p.0.1, p.0.2, p.1.2, excitation-low a.bnd.now a.g a.l a.first a.last p.0.3 p.1.0 _ (rw p.1.3 at w), w.size ∙ ap length p.1.3)
+    (p.hth_value.0, p.hth_value.1, p.hth_value.2, p.leaking.2, excitation-low a.bnd.now a.g a.l a.first a.last p.hth_value.3 p.leaking.0 _ (rw p.leaking.3 at w), w.size ∙ ap length p.leaking.3)
 
 pub shift-requires : goal.shift-requires
 shift-requires c =
     let p = c.requires in
     let w = c.mask_bands.ensures in
-    (p.0.2, p.1.1, w.1, w.0.size ∙ c.excite.ensures.size ∙ ap length p.1.3)
+    (p.hth_value.2, p.leaking.1, w.1, w.0.size ∙ c.excite.ensures.size ∙ ap length p.leaking.3)
 
 pub returns : goal.returns
 returns c =

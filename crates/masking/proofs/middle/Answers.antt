@@ -11,10 +11,10 @@ use Rattle.masking.proofs.middle.Goals as goal
 pub loop-b-init : goal.loop-b-init
 loop-b-init c =
     let a = c.args in
-    (search rules, c.requires.0.4, excites-none a.bnd.now a.g 0 a.last a.from a.s a.out.now, c.requires.1.2)
+    (search rules, c.requires.from_le_to.4, excites-none a.bnd.now a.g 0 a.last a.from a.s a.out.now, c.requires.by_index.2)
 
 pub pass_low-t-requires : goal.pass_low-t-requires
-pass_low-t-requires c = (omega (arith, c.requires.0.2), c.requires.0.3, c.requires.1.0, c.requires.1.1, c.loop-b.invariant.3)
+pass_low-t-requires c = (omega (arith, c.requires.from_le_to.2), c.requires.from_le_to.3, c.requires.by_index.0, c.requires.by_index.1, c.loop-b.invariant.3)
 
 pub overflow_sub-t : goal.overflow_sub-t
 overflow_sub-t c = omega (arith, c.pass_low-t.ensures.1.fast, c.pass_low-t.ensures.1.low)
@@ -23,7 +23,7 @@ pub loop-b-preserved : goal.loop-b-preserved
 loop-b-preserved c =
     let a = c.args in
     let b = c.loop-b.b in
-    let h : begin_l a.bnd.now 0 a.last ≤ b = omega (arith, c.requires.0.1 (omega (arith, c.loop-b.invariant.2.up)), c.loop-b.invariant.2.up) in (
+    let h : begin_l a.bnd.now 0 a.last ≤ b = omega (arith, c.requires.from_le_to.1 (omega (arith, c.loop-b.invariant.2.up)), c.loop-b.invariant.2.up) in (
       omega arith,
       simp length-set c.loop-b.invariant.1,
       excites-more a.bnd.now a.g 0 a.last a.from b a.s c.loop-b.t c.pass_low-t.result a.out.now c.loop-b.out c.larger.result

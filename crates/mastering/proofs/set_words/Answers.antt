@@ -5,10 +5,10 @@ use Rattle.mastering.proofs.Entry.{reader-refuses, listed, words-set}
 use Rattle.mastering.proofs.set_words.Goals as goal
 
 pub returns-then-not-accepted : goal.returns-then-not-accepted
-returns-then-not-accepted c = reader-refuses _ _ _ _ c.parse-read.ensures (sym c.accepted.ensures ∙ not-true _ c.if-not-accepted.true)
+returns-then-not-accepted c = reader-refuses _ _ _ _ c.parse-read.ensures (sym c.accepted.ensures ∙ c.if-not-accepted.true)
 
 pub rewrite-number-requires : goal.rewrite-number-requires
-rewrite-number-requires c = listed _ _ _ _ _ _ _ _ c.parse-read.ensures (sym c.accepted.ensures ∙ not-false _ c.if-not-accepted.false)
+rewrite-number-requires c = listed _ _ _ _ _ _ _ _ c.parse-read.ensures (sym c.accepted.ensures ∙ c.if-not-accepted.false)
 
 pub shape_of-names : goal.shape_of-names
 shape_of-names c = c.names-1.given
@@ -18,5 +18,5 @@ shape_of-blocks c = c.blocks-1.given
 
 pub returns : goal.returns
 returns c =
-    words-set _ _ _ _ _ _ _ _ c.parse-read.ensures (sym c.accepted.ensures ∙ not-false _ c.if-not-accepted.false) _ _ _ c.rewrite-number.ensures.0 c.rewrite-number.ensures.1 c.rewrite-number.ensures.2
+    words-set _ _ _ _ _ _ _ _ c.parse-read.ensures (sym c.accepted.ensures ∙ c.if-not-accepted.false) _ _ _ c.rewrite-number.ensures.0 c.rewrite-number.ensures.1 c.rewrite-number.ensures.2
     c.edge_answer.ensures

@@ -11,16 +11,14 @@ loop-j-init c = (search rules, search rules, search rules, written_none _ c.args
 
 pub loop-j-preserved : goal.loop-j-preserved
 loop-j-preserved c =
-    let at = c.before in
-    let a = at.before.args in (
+    let a = c.args in (
       omega arith,
       omega arith,
-      simp length-set at.loop.invariant.2,
-      written-more (λ k. 0) a.from at.loop.j a.out.now at.loop.out 0 at.loop.invariant.0 (omega (arith, at.before.requires.1)) at.loop.invariant.3 refl,
+      simp length-set c.loop-j.invariant.2,
+      written-more (λ k. 0) a.from c.loop-j.j a.out.now c.loop-j.out 0 c.loop-j.invariant.0 (omega (arith, c.requires.1)) c.loop-j.invariant.3 refl,
     )
 
 pub returns : goal.returns
 returns c =
-    let at = c.before in
-    let e : at.loop.j ≡ at.before.args.to = omega arith in
-    rw e at at.loop.invariant.3
+    let e : c.loop-j.j ≡ c.args.to = omega arith in
+    rw e at c.loop-j.invariant.3

@@ -10,9 +10,9 @@ pub place_bands-requires : goal.place_bands-requires
 place_bands-requires c =
     let p = c.requires in
     let w = c.masks.ensures in
-    (p.0.1, p.0.2, p.1.2, w.0.size ∙ ap length p.1.3)
+    (p.hth_value.1, p.hth_value.2, p.leaking.2, w.0.size ∙ ap length p.leaking.3)
 
 pub returns : goal.returns
 returns c =
     let a = c.args in
-    places-made a.g a.l a.q a.d a.bnd.now a.first a.last _ _ (rw c.requires.1.3 at c.masks.ensures.0) c.place_bands.ensures
+    places-made a.g a.l a.q a.d a.bnd.now a.first a.last _ _ (rw c.requires.leaking.3 at c.masks.ensures.0) c.place_bands.ensures

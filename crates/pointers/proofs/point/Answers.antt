@@ -13,11 +13,11 @@ loop-j-init c =
 
 pub bounds-powers-j : goal.bounds-powers-j
 bounds-powers-j c =
-    omega (arith, c.requires.0.3.size)
+    omega (arith, c.requires.lo_le_hi.3.size)
 
 pub pointer-b-requires : goal.pointer-b-requires
 pointer-b-requires c =
-    (c.requires.0.2, c.requires.0.3.low _)
+    (c.requires.lo_le_hi.2, c.requires.lo_le_hi.3.low _)
 
 pub bounds-out-j : goal.bounds-out-j
 bounds-out-j c =
@@ -25,7 +25,7 @@ bounds-out-j c =
 
 pub overflow_add-sum : goal.overflow_add-sum
 overflow_add-sum c =
-    omega (arith, pointed-most c.args.shares.now _ 281474976710656 c.args.lo c.loop-j.j _ _ _ c.requires.1 c.loop-j.invariant.3, c.requires.1 c.index.result)
+    omega (arith, pointed-most c.args.shares.now _ 281474976710656 c.args.lo c.loop-j.j _ _ _ c.requires.by_index c.loop-j.invariant.3, c.requires.by_index c.index.result)
 
 pub loop-j-preserved : goal.loop-j-preserved
 loop-j-preserved c =

@@ -26,38 +26,38 @@ band-past start end most h = by (dec_lt start 28)
 pub point_singles-a-requires : goal.point_singles-a-requires
 point_singles-a-requires c =
     let p = c.requires in
-    let e = p.1.0.0 in
+    let e = p.powers.0.0 in
     let s = c.sooner-single.ensures in
     let m = c.later-mid.ensures in (
-      (omega arith, omega arith, p.0.3, e, p.1.0.1),
-      p.1.1,
+      (omega arith, omega arith, p.ends_value.3, e, p.powers.0.1),
+      p.powers.1,
     )
 
 pub point_bands-b-requires : goal.point_bands-b-requires
 point_bands-b-requires c =
     let a = c.args in
     let p = c.requires in
-    let e = p.1.0.0 in
+    let e = p.powers.0.0 in
     let s = c.sooner-single.ensures in
     let m = c.later-mid.ensures in
     let k = c.later.ensures in (
-      (p.0.0, omega (arith, p.0.1), p.0.2, p.0.3, λ h. rw (k, m, s, p.0.4) (band-past a.start a.end p.0.2 (rw (m, s) at h))),
+      (p.ends_value.0, omega (arith, p.ends_value.1), p.ends_value.2, p.ends_value.3, λ h. rw (k, m, s, p.ends_value.4) (band-past a.start a.end p.ends_value.2 (rw (m, s) at h))),
       (
-        (e, c.point_singles-a.ensures.written.size ∙ p.1.0.1),
-        p.1.1,
+        (e, c.point_singles-a.ensures.written.size ∙ p.powers.0.1),
+        p.powers.1,
       ),
     )
 
 pub overflow_add-result : goal.overflow_add-result
 overflow_add-result c =
     let a = c.args in
-    let s = c.requires.1.1.1 in
+    let s = c.requires.powers.1.1 in
     let m = c.later-mid.ensures in
     let n = c.sooner-single.ensures in
     let f = pointer_l a.points.now a.base a.powers.now a.place.now in
     let one = pointed-most a.shares.now f 281474976710656 a.start c.later-mid.result _ _ _ s c.point_singles-a.ensures in
     let two = pointed-most a.shares.now f 281474976710656 c.later-mid.result a.end _ _ _ s c.point_bands-b.ensures in
-    omega (arith, c.requires.0.1, c.requires.0.2)
+    omega (arith, c.requires.ends_value.1, c.requires.ends_value.2)
 
 pub shape_of-out : goal.shape_of-out
 shape_of-out c =
@@ -70,4 +70,4 @@ returns c =
     let m = c.later-mid.ensures in
     let f = pointer_l a.points.now a.base a.powers.now a.place.now in
     pointed-join a.shares.now f f a.start c.later-mid.result a.end _ _ _ _ _
-    (omega arith) (omega (arith, c.requires.0.1)) c.point_singles-a.ensures c.point_bands-b.ensures (λ k x y. refl)
+    (omega arith) (omega (arith, c.requires.ends_value.1)) c.point_singles-a.ensures c.point_bands-b.ensures (λ k x y. refl)

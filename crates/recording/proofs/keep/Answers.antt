@@ -44,6 +44,6 @@ bounds-values-count c = (inside c.requires c.args.count (omega (arith, c.if-most
 
 pub returns : goal.returns
 returns c = keeps-made _ _ _ _ _ c.args.l c.if-number-ne0.false _ c.requires (omega (arith, c.if-most-count.false)) _ c.name_of.ensures
-    _ c.cell_of.ensures _ (to_z-of_z {w = w8} {z = c.block_part.result} (record { sfits = c.block_part.type-inv }) ∙ c.block_part.ensures)
-    _ c.index_of.ensures _ (to_z-of_z {w = w16} {z = c.index_part.result} (record { sfits = c.index_part.type-inv }) ∙ c.index_part.ensures)
+    _ c.cell_of.ensures _ (to_z-of_z {w = w8} {z = c.block_part.result} (record { sfits = c.block_part.type_inv }) ∙ c.block_part.ensures)
+    _ c.index_of.ensures _ (to_z-of_z {w = w16} {z = c.index_part.result} (record { sfits = c.index_part.type_inv }) ∙ c.index_part.ensures)
     _ c.keep_of-k.ensures.0 _ c.put.ensures c.going.result c.going.ensures

@@ -5,8 +5,8 @@ use Rattle.slots.proofs.requested.Goals as goal
 
 pub returns-then-not-used : goal.returns-then-not-used
 unfolding requested_of
-returns-then-not-used c = rw (sym c.used.ensures ∙ not-true _ c.if-not-used.true)
+returns-then-not-used c = rw (sym c.used.ensures ∙ c.if-not-used.true)
 
 pub returns : goal.returns
 unfolding requested_of
-returns c = rw (sym c.used.ensures ∙ not-false _ c.if-not-used.false, c.read.ensures)
+returns c = rw (sym c.used.ensures ∙ c.if-not-used.false, c.read.ensures)

@@ -5,8 +5,8 @@ use Rattle.replay.proofs.cases.kept.Goals as goal
 
 pub returns-in-Accepted : goal.returns-in-Accepted
 unfolding kept_of
-returns-in-Accepted c = rw c.enum_told-1.given.1 refl
+returns-in-Accepted c = rw c.in-Accepted.is refl
 
 pub returns-in-Refused : goal.returns-in-Refused
 unfolding kept_of
-returns-in-Refused c = rw c.enum_told-in-Refused-1.given.1 refl
+returns-in-Refused c = rw c.in-Refused.is refl

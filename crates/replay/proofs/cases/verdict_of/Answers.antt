@@ -5,7 +5,7 @@ use Rattle.replay.proofs.cases.verdict_of.Goals as goal
 
 pub returns-in-Accepted : goal.returns-in-Accepted
 unfolding verdict_of
-returns-in-Accepted c = rw c.enum_told-1.given.1 refl
+returns-in-Accepted c = rw c.in-Accepted.is refl
 
 pub returns-in-Refused : goal.returns-in-Refused
 unfolding verdict_of

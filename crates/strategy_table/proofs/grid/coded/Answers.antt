@@ -9,4 +9,4 @@ returns-in-Value c = rw c.f-1.given.1 c.expanded.ensures
 
 pub returns-in-Nothing : goal.returns-in-Nothing
 unfolding coded_of
-returns-in-Nothing c = rw c.enum_told-1.given.1 refl
+returns-in-Nothing c = rw c.in-Nothing.is refl
