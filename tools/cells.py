@@ -43,7 +43,7 @@ MIXEND 1 where those of their bits end that are read as elements
 MIXUSED 1 how many bits these are
 MIXBITS 1 how many bits the mixing data have
 MIXDATA2E
-SCALE-EXISTS 1 extpgmlscle and the flags like it
+SCALE_EXISTS 1 extpgmlscle and the flags like it
 ADDCHE
 MIXDATA3E
 ADDSPCHDATE
@@ -82,13 +82,13 @@ NCPLREGS
 NCHREGS 5 by channel
 NLFEREGS
 AHTINU 7 by slot
-AHT-READ 7 whether the mantissas of a slot of the adaptive hybrid transform were read in an earlier block, by slot
+AHT_READ 7 whether the mantissas of a slot of the adaptive hybrid transform were read in an earlier block, by slot
 FRMFSNROFFST
 CHINTRANSPROC
 CHINSPXATTEN
 BLKSTRTINFOE
 WIDTH 1 the width of a span
-BLOCK-STARTS 6 by block
+BLOCK_STARTS 6 by block
 DYNRNGE
 DYNRNG2E
 SPXSTRE
@@ -96,11 +96,11 @@ SPXINU
 CHINSPX 5 by channel
 SPXBEGF
 SPXENDF
-SPX-BEGIN 1 spx_begin_subbnd
-SPX-END 1 spx_end_subbnd
+SPX_BEGIN 1 spx_begin_subbnd
+SPX_END 1 spx_end_subbnd
 SPXBNDSTRCE
 SPXBNDSTRC 17 by sub-band
-SPX-BLOCKS 1 how many blocks use spectral extension
+SPX_BLOCKS 1 how many blocks use spectral extension
 NSPXBNDS
 FIRSTSPXCOS 5 by channel
 SPXCOE
@@ -110,12 +110,12 @@ CHINCPL 5 by channel
 PHSFLGINU
 CPLBEGF
 CPLENDF
-CPL-SUBND-END 1 the first sub-band past the coupling range: cplendf + 3
+CPL_SUBND_END 1 the first sub-band past the coupling range: cplendf + 3
 NCPLSUBND
 CPLBNDSTRCE
 CPLBNDSTRC 18 by sub-band
 NCPLBND
-CPL-BLOCKS 1 how many blocks use coupling
+CPL_BLOCKS 1 how many blocks use coupling
 FIRSTCPLCOS 5 by channel
 FIRSTCPLLEAK
 CPLCOE 5 by channel
@@ -131,7 +131,7 @@ ABSEXP 1 the absolute exponent of a set
 HELDSTRT 1 the first bin of the coupling exponents that are held
 HELDEND 7 the first bin past the exponents that are held, 0 for none, by slot
 BAIE
-BAI-SENT 1 whether the five parameters below were ever sent
+BAI_SENT 1 whether the five parameters below were ever sent
 SDCYCOD
 FDCYCOD
 SGAINCOD
@@ -156,15 +156,15 @@ DELTLEN 48 by slot and segment
 DELTBA 48 by slot and segment
 SKIPLE
 SKIPL
-MANTISSA-STARTS 6 by block
+MANTISSA_STARTS 6 by block
 TAGS 8 what the walk of a block's mantissas tells: its GAQ tags, and the bits of each slot
-SLOT-BITS 48 the bits of the slots, by block, in rows of eight
-AHT-TAGS 1 the GAQ tags so far
-AUDIO-END 1 the bit after the last block
-FRAME-END 1 the bit after the frame
-AFTER-AUDIO 1 how many bits follow the audio
+SLOT_BITS 48 the bits of the slots, by block, in rows of eight
+AHT_TAGS 1 the GAQ tags so far
+AUDIO_END 1 the bit after the last block
+FRAME_END 1 the bit after the frame
+AFTER_AUDIO 1 how many bits follow the audio
 AUXDATAE 1 auxdatae, looked at ahead
-AFTER-AUXDATAE 1 the bit after auxdatae
+AFTER_AUXDATAE 1 the bit after auxdatae
 AUXDATAL
 """
 
@@ -191,7 +191,7 @@ def comment(many, text):
 def definition():
     print("-- The cells, by the names of the elements and helper variables of A/52 and of TS 102 366. A number in brackets says of how many")
     print("-- cells a name is the first. Cells 2 to 31 can be counters. Written by tools/cells.py.")
-    print("use Prim.Native.Nat.{ℕ}")
+    print("use Rattle.std.specs.Prelude.{ℕ}")
     for name, at, many, text in numbered():
         print()
         if comment(many, text):

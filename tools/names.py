@@ -82,7 +82,7 @@ def definitions(names):
     out = [
         f"-- The names of records: their numbers, and their spellings in byte order. {MADE}",
         "use mathlib.Core.List.{List, [], _∷_}",
-        "use Prim.Native.Nat.{ℕ}",
+        "use Rattle.std.specs.Prelude.{ℕ}",
         "use Prim.Native.String.{String}",
         "",
         "-- a name's number and its spelling",

@@ -82,7 +82,7 @@ def sum_of(expression):
         return 0, 0
     kind, part = expression
     n = number(part)
-    return {"nth": (n + 1, 0), "by": (1, n), "from": (n, 0), "after": (1, n), "slot": (n, 0), "slot-of": (0, n)}[kind]
+    return {"nth": (n + 1, 0), "by": (1, n), "from": (n, 0), "after": (1, n), "slot": (n, 0), "slot_of": (0, n)}[kind]
 
 
 def fields(*parts):
@@ -190,7 +190,7 @@ class Table:
             value = fields((0, 14), (4, int(form == "Fixed")), (7, number(rest[0])), (12, base), (22, by), (27, row), (31, start), (36, start_of), (46, len(inner)))
         elif kind == "reject":
             value = refusal(rest[0], number(rest[1]), 0)
-        elif kind == "reject-at":
+        elif kind == "reject_at":
             value = refusal(rest[0], number(rest[1]), number(rest[2]))
         elif kind == "put":
             value = put(rest[0], rest[1])

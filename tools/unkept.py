@@ -58,7 +58,7 @@ def main():
     for block in ("header", "body", "tail"):
         pages.block([block])
     names = sorted(pages.seen - pages.kept, key=table.NAMES.get)
-    definition = re.search(r"^unkeptNames =\n(.*?)\[\]$", Path("crates/annex/specs/Unkept.antt").read_text(), re.M | re.S)[1]
+    definition = re.search(r"^unkept_names =\n(.*?)\[\]$", Path("crates/annex/specs/Unkept.antt").read_text(), re.M | re.S)[1]
     document = re.search(r"^Names that steer nothing: (.*)\.$", Path("docs/ARCHITECTURE.md").read_text(), re.M)
     for where, found in ("crates/annex/specs/Unkept.antt", definition.replace("∷", " ").split()), ("docs/ARCHITECTURE.md", document[1].replace("`", "").split(", ") if document else []):
         if found != names:

@@ -10,7 +10,7 @@ use lib.ListN.{get_or}
 use lib.Signed.{◌≤ℤ◌, le_z_yes}
 use Rattle.tables.specs.BitAllocation.{latab}
 use Rattle.tables.proofs.Neighbours.{latab-high}
-use Rattle.alloc.specs.Allocation.{max_z, logadd}
+use Rattle.alloc.specs.Allocation.{max_z}
 use Rattle.alloc.specs.Levels.{logadd_l, LogSum, apart}
 use Rattle.alloc.specs.LogBound.{LogBound}
 use Rattle.alloc.proofs.Signs.{less, more}

@@ -383,7 +383,7 @@ pub const TABLE: [u64; 510] = [
     492581209407886, // exponents_of_block: each CH (from 0) (upto NFCHANS)
     72058143778063993, // exponents_of_block: when (Not (at2 CHEXPSTR CH BLK) 0)
     1718025602561, // exponents_of_block: element exps_ch_0 (by CH) 4 (cell ABSEXP)
-    1717987018239, // exponents_of_block: exponents (slot-of CH) exps_ch (by CH)
+    1717987018239, // exponents_of_block: exponents (slot_of CH) exps_ch (by CH)
     1717986928545, // exponents_of_block: element gainrng (by CH) 2 no
     563175573853338, // exponents_of_block: put (at HELDEND CH) (copy (at ENDMANT CH))
     18014398518969977, // exponents_of_block: when (Is (at2 CHEXPSTR CH BLK) 0)

@@ -1,5 +1,5 @@
 -- Bits of a buffer of bytes, the high bit of byte 0 first (A/52 clause 5.3, TS 102 366 clause 4.3).
-use Rattle.std.specs.Prelude.{◌≡◌, Bool, true, false, ◌&&◌, cond, List, ℕ, zero, suc, ◌+◌, ◌*◌, ◌-◌, ◌/◌, ◌%◌, ◌^◌, ◌≤◌, ◌<◌, leb, length, get_or}
+use Rattle.std.specs.Prelude.{◌≡◌, ◌&&◌, cond, List, ℕ, zero, suc, ◌+◌, ◌*◌, ◌-◌, ◌/◌, ◌%◌, ◌^◌, ◌≤◌, ◌<◌, leb, length, get_or}
 
 -- bit i of the buffer
 unfoldable pub bit_at : List ℕ → ℕ → ℕ

@@ -1,8 +1,8 @@
 // Lists the elements of the frame on standard input: the answer, then first bit, width, name, block, index and value of each.
 #![tactic(auto)]
 
-fn main() {
-    let text = listing::text_of(ingest::input());
+fn main(rt: HostRuntime) -> std::io::Result<()> {
+    let text = listing::text_of(ingest::input(&rt)?);
     let bytes = text.bytes;
-    print::write(&bytes, text.size);
+    print::write(&rt, &bytes, text.size)
 }

@@ -5,15 +5,15 @@
 // has: no frame is longer, and what follows a frame is not looked at, so each position gets the answer that it has in the whole.
 #![tactic(auto)]
 
-ghost use Rattle.std.specs.Prelude.{◌≡◌, ◌-◌, ◌≤◌, min, length};
+ghost use Rattle.std.specs.Prelude.{◌≡◌, ◌-◌, ◌≤◌, IfOk, min, length};
 ghost use Rattle.ingest.specs.Ingest.{empty};
 ghost use Rattle.search.specs.Find.{found_in};
 ghost use Rattle.frames.specs.Held.{allowance_of, next_in, Shifted};
 
 use answer::{Frame, Verdict};
 use frame_line::{Text, frame_line, heading, last_line, stretch_line};
-use libc::STDIN_FILENO;
 use search::{Found, find};
+use std::io::Result;
 use std::num::{wrapping_add_u64, wrapping_add_usize, wrapping_sub_u64};
 
 // The longest frame.
@@ -100,17 +100,17 @@ fn shift(bytes: &mut [u8], first: usize, size: usize) -> usize
 }
 
 // Holds the bytes from one on, and as many more of the capture as there is room for.
-fn refill(bytes: &mut [u8], first: usize, size: usize) -> usize
-    ensures { Shifted bytes.old first size bytes.new result }
+fn refill(rt: &HostRuntime, bytes: &mut [u8], first: usize, size: usize) -> Result<usize>
+    ensures { IfOk result (λ n. Shifted bytes.old first size bytes.new n) }
 {
     let n = shift(bytes, first, size);
-    let more = io::read_full(STDIN_FILENO, &mut bytes[n..]);
-    n + more
+    let more = print::read_full(&mut rt.stdin(), &mut bytes[n..])?;
+    Ok(n + more)
 }
 
-fn refilled(bytes: &mut [u8], p: Place, first: usize) -> Place {
-    let size = refill(bytes, first, p.size);
-    Place {
+fn refilled(rt: &HostRuntime, bytes: &mut [u8], p: Place, first: usize) -> Result<Place> {
+    let size = refill(rt, bytes, first, p.size)?;
+    Ok(Place {
         before: wrapping_add_u64(p.before, first as u64),
         size: size,
         at: 0,
@@ -119,31 +119,31 @@ fn refilled(bytes: &mut [u8], p: Place, first: usize) -> Place {
         frames: p.frames,
         passed: p.passed,
         done: false,
-    }
+    })
 }
 
-fn write(text: Text)
+fn write(rt: &HostRuntime, text: Text) -> Result<()>
     requires { text.size ≤ length text.bytes }
 {
     let bytes = text.bytes;
-    print::write(&bytes, text.size);
+    print::write(rt, &bytes, text.size)
 }
 
 // Tells of the bytes between two positions, if there are any, and says how many they are.
-fn stretch(behind: u64, position: u64) -> u64 {
+fn stretch(rt: &HostRuntime, behind: u64, position: u64) -> Result<u64> {
     let n = wrapping_sub_u64(position, behind);
     if n != 0 {
-        write(stretch_line(behind, n));
+        write(rt, stretch_line(behind, n))?;
     }
-    n
+    Ok(n)
 }
 
 // Tells of a frame at a place of the bytes that are held.
-fn told(p: Place, at: usize, frame: Frame) -> Place {
+fn told(rt: &HostRuntime, p: Place, at: usize, frame: Frame) -> Result<Place> {
     let position = wrapping_add_u64(p.before, at as u64);
-    let n = stretch(p.behind, position);
-    write(frame_line(position, frame));
-    Place {
+    let n = stretch(rt, p.behind, position)?;
+    write(rt, frame_line(position, frame))?;
+    Ok(Place {
         before: p.before,
         size: p.size,
         at: wrapping_add_usize(at, frame.bytes.0 as usize),
@@ -152,15 +152,15 @@ fn told(p: Place, at: usize, frame: Frame) -> Place {
         frames: wrapping_add_u64(p.frames, 1),
         passed: wrapping_add_u64(p.passed, n),
         done: false,
-    }
+    })
 }
 
 // Tells of what lies behind the last frame, and of the sums.
-fn finished(p: Place) -> Place {
+fn finished(rt: &HostRuntime, p: Place) -> Result<Place> {
     let all = wrapping_add_u64(p.before, p.size as u64);
-    let n = stretch(p.behind, all);
-    write(last_line(p.frames, all, wrapping_add_u64(p.passed, n)));
-    Place {
+    let n = stretch(rt, p.behind, all)?;
+    write(rt, last_line(p.frames, all, wrapping_add_u64(p.passed, n)))?;
+    Ok(Place {
         before: p.before,
         size: p.size,
         at: p.size,
@@ -169,21 +169,21 @@ fn finished(p: Place) -> Place {
         frames: p.frames,
         passed: p.passed,
         done: true,
-    }
+    })
 }
 
 // One frame more; or more of the capture, where none is found in what is held; or the end.
-fn step(bytes: &mut [u8], p: Place) -> Place {
+fn step(rt: &HostRuntime, bytes: &mut [u8], p: Place) -> Result<Place> {
     let found = next_of(bytes, p.size, p.at, p.ended);
     let answer = found.answer;
     let verdict = answer.verdict;
     match verdict {
-        Verdict::Accepted => told(p, found.position, answer.frame),
+        Verdict::Accepted => told(rt, p, found.position, answer.frame),
         Verdict::Refused(_, _, _) => {
             if p.ended {
-                return finished(p);
+                return finished(rt, p);
             }
-            refilled(bytes, p, wrapping_add_usize(p.at, found.tried))
+            refilled(rt, bytes, p, wrapping_add_usize(p.at, found.tried))
         }
     }
 }
@@ -202,17 +202,18 @@ fn begun() -> Place {
 }
 
 // A proved loop has to end, and nothing says that a capture does: the turns are counted down from a number that no run uses up.
-fn tell(bytes: &mut [u8]) {
+fn tell(rt: &HostRuntime, bytes: &mut [u8]) -> Result<()> {
     let mut p = begun();
     let mut turns = u64::MAX;
     while turns > 0 && !p.done {
-        p = step(bytes, p);
+        p = step(rt, bytes, p)?;
         turns -= 1;
     }
+    Ok(())
 }
 
-fn main() {
-    write(heading());
+fn main(rt: HostRuntime) -> Result<()> {
+    write(&rt, heading())?;
     let mut bytes = [0u8; 16384];
-    tell(&mut bytes);
+    tell(&rt, &mut bytes)
 }

@@ -10,6 +10,7 @@ use gain::Range;
 use gain_range::FrameGains;
 use listing::first_line;
 use print::{decimal, put, write};
+use std::io::Result;
 
 // 20 log10 (1 + Y / 32), in millionths of a dB, for Y from 0 to 31.
 const STEPS: [u32; 32] = [
@@ -128,13 +129,12 @@ fn at_most(n: usize) -> usize
 }
 
 // The line of one word.
-fn line(name: &[u8], r: Range) {
+fn line(rt: &HostRuntime, name: &[u8], r: Range) -> Result<()> {
     let mut out = [0u8; 128];
     let at = put(&mut out, 0, name);
     if r.words == 0 {
         let at = put(&mut out, at, b": no word sent\n");
-        write(&out, at_most(at));
-        return;
+        return write(rt, &out, at_most(at));
     }
     let low = parts_of(r.low);
     let high = parts_of(r.high);
@@ -149,20 +149,20 @@ fn line(name: &[u8], r: Range) {
     let at = put(&mut out, at, b" to ");
     let at = decibels(&mut out, at, high);
     let at = put(&mut out, at, b"\n");
-    write(&out, at_most(at));
+    write(rt, &out, at_most(at))
 }
 
-fn answered(answer: Answer) {
+fn answered(rt: &HostRuntime, answer: Answer) -> Result<()> {
     let mut out = [0u8; 128];
     let n = first_line(&mut out, 0, answer);
-    write(&out, n);
+    write(rt, &out, n)
 }
 
 // The lines of a frame, to standard output.
-pub fn tell(told: FrameGains) {
-    answered(told.answer);
-    line(b"dynrng", told.gains.dynrng.range);
-    line(b"compr", told.gains.compr.range);
-    line(b"dynrng2", told.gains.dynrng2.range);
-    line(b"compr2", told.gains.compr2.range);
+pub fn tell(rt: &HostRuntime, told: FrameGains) -> Result<()> {
+    answered(rt, told.answer)?;
+    line(rt, b"dynrng", told.gains.dynrng.range)?;
+    line(rt, b"compr", told.gains.compr.range)?;
+    line(rt, b"dynrng2", told.gains.dynrng2.range)?;
+    line(rt, b"compr2", told.gains.compr2.range)
 }

@@ -3,7 +3,6 @@
 #![tactic(auto)]
 
 use gain_range::{FrameGains, gain_range};
-use libc::STDIN_FILENO;
 
 fn gains_of(src: &[u8]) -> FrameGains {
     let mut names: [u8; 2048] = [0; 2048];
@@ -23,8 +22,8 @@ fn gains_of(src: &[u8]) -> FrameGains {
     )
 }
 
-fn main() {
-    let mut bytes = io::buffer();
-    let n = io::read_full(STDIN_FILENO, &mut bytes);
-    gain_lines::tell(gains_of(&bytes[..n]));
+fn main(rt: HostRuntime) -> std::io::Result<()> {
+    let mut bytes = [0u8; 4096];
+    let n = print::read_full(&mut rt.stdin(), &mut bytes)?;
+    gain_lines::tell(&rt, gains_of(&bytes[..n]))
 }

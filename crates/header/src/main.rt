@@ -7,9 +7,9 @@ ghost use Rattle.names.specs.Spelling.{rows};
 
 use bits::{BitPlace, ByteCount};
 use lent::Label;
-use libc::STDIN_FILENO;
 use names::numbers;
 use print::number;
+use std::io::Result;
 use syntax::Cursor;
 
 // The elements of a header with fscod 0 to 2 (A/52 table E1.2): the name and the width of each.
@@ -116,7 +116,14 @@ fn end(n: usize) -> BitPlace
     ByteCount(n as u16).bits()
 }
 
-fn line(table: &[u8; 3232], first: u16, wide: u16, name: u8, value: u32)
+fn line(
+    rt: &HostRuntime,
+    table: &[u8; 3232],
+    first: u16,
+    wide: u16,
+    name: u8,
+    value: u32,
+) -> Result<()>
     requires { table.now ≡ rows }
 {
     let mut out = [0u8; 64];
@@ -124,31 +131,33 @@ fn line(table: &[u8; 3232], first: u16, wide: u16, name: u8, value: u32)
     let at = number(&mut out, at, wide as u64, b' ');
     let at = print::name(table, &mut out, at, name, b' ');
     let at = number(&mut out, at, value as u64, b'\n');
-    print::write(&out, at);
+    print::write(rt, &out, at)
 }
 
 fn lines(
+    rt: &HostRuntime,
     table: &[u8; 3232],
     count: usize,
     firsts: [u16; 9],
     widths: [u16; 9],
     names: [u8; 9],
     values: [u32; 9],
-)
+) -> Result<()>
     requires { table.now ≡ rows }
 {
     let mut i = 0;
     while i < 9 {
         if i < count {
-            line(table, firsts[i], widths[i], names[i], values[i]);
+            line(rt, table, firsts[i], widths[i], names[i], values[i])?;
         }
         i += 1;
     }
+    Ok(())
 }
 
-fn main() {
-    let mut bytes = io::buffer();
-    let n = io::read_full(STDIN_FILENO, &mut bytes);
+fn main(rt: HostRuntime) -> Result<()> {
+    let mut bytes = [0u8; 4096];
+    let n = print::read_full(&mut rt.stdin(), &mut bytes)?;
     let mut names = [0u8; 9];
     let mut blocks = [0i8; 9];
     let mut indexes = [0i16; 9];
@@ -166,5 +175,5 @@ fn main() {
         end(n),
     );
     let table = names::table();
-    lines(&table, count, firsts, widths, names, values);
+    lines(&rt, &table, count, firsts, widths, names, values)
 }

@@ -1,7 +1,7 @@
 // Slices on standard input, each after two bytes that say its length, the high byte first.
-ghost use Rattle.std.specs.Prelude.{◌≡◌, ◌+◌, ◌*◌, ◌≤◌, ◌<◌, min, drop, replicate};
+ghost use Rattle.std.specs.Prelude.{◌≡◌, ◌+◌, ◌*◌, ◌≤◌, ◌<◌, IfOk, min, drop, replicate};
 
-use libc::STDIN_FILENO;
+use std::io::Result;
 
 // A number of two bytes.
 pub fn pair(high: u8, low: u8) -> usize
@@ -11,12 +11,12 @@ pub fn pair(high: u8, low: u8) -> usize
 }
 
 // The number of the next two bytes.
-pub fn input_pair() -> usize
-    ensures { result < 65536 }
+pub fn input_pair(rt: &HostRuntime) -> Result<usize>
+    ensures { IfOk result (λ n. n < 65536) }
 {
     let mut bytes = [0u8; 2];
-    io::read_full(STDIN_FILENO, &mut bytes);
-    pair(bytes[0], bytes[1])
+    print::read_full(&mut rt.stdin(), &mut bytes)?;
+    Ok(pair(bytes[0], bytes[1]))
 }
 
 // The length of a slice: no list has one above 4,200.
@@ -27,11 +27,11 @@ pub fn length(n: usize) -> usize
 }
 
 // The next n bytes, and 0 after them.
-pub fn slice(n: usize) -> [u8; 4200]
+pub fn slice(rt: &HostRuntime, n: usize) -> Result<[u8; 4200]>
     requires { n ≤ 4200 }
-    ensures { drop n result ≡ drop n (replicate 4200 0) }
+    ensures { IfOk result (λ bytes. drop n bytes ≡ drop n (replicate 4200 0)) }
 {
     let mut bytes = [0u8; 4200];
-    io::read_full(STDIN_FILENO, &mut bytes[..n]);
-    bytes
+    print::read_full(&mut rt.stdin(), &mut bytes[..n])?;
+    Ok(bytes)
 }

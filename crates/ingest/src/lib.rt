@@ -3,10 +3,11 @@
 
 pub mod cases;
 
+ghost use Rattle.std.specs.Prelude.{IfOk};
 ghost use Rattle.ingest.specs.Ingest.{ReadFrom, Read};
 
-use libc::STDIN_FILENO;
 use listing::Records;
+use std::io::Result;
 
 // Reads one frame with room for 2,048 records.
 pub fn records_of(src: &[u8]) -> Records
@@ -39,10 +40,10 @@ pub fn records_of(src: &[u8]) -> Records
 }
 
 // The frame on standard input: its first 4,096 bytes are read, what follows is ignored.
-pub fn input() -> Records
-    ensures { Read result }
+pub fn input(rt: &HostRuntime) -> Result<Records>
+    ensures { IfOk result Read }
 {
-    let mut bytes = io::buffer();
-    let n = io::read_full(STDIN_FILENO, &mut bytes);
-    records_of(&bytes[..n])
+    let mut bytes = [0u8; 4096];
+    let n = print::read_full(&mut rt.stdin(), &mut bytes)?;
+    Ok(records_of(&bytes[..n]))
 }

@@ -54,6 +54,7 @@ put-after [] m k i j h = refl
 put-after (x ∷ xs) m k i j h = put-after xs (set m (k + i) x) k (suc i) j (omega arith) ∙ get_or-set_other m (k + i) j x 0 (λ z. omega arith)
 
 put-at : (xs m : List ℕ) (k i j : ℕ) → j < length xs → k + i + length xs ≤ length m → get_or (put m k i xs) (k + (i + j)) 0 ≡ get_or xs j 0
+put-at [] m k i j h l = elim h [ ]
 put-at (x ∷ xs) m k i zero h l =
     let e : i + 0 ≡ i = omega arith in
     rw e (put-before xs (set m (k + i) x) k (suc i) (k + i) (omega arith) ∙ get_or-set_same m (k + i) x 0 (omega arith))

@@ -6,6 +6,7 @@ ghost use Rattle.names.specs.Spelling.{rows};
 
 use names::Role;
 use print::{number, put};
+use std::io::Result;
 
 // A role that belongs to a programme, with the programme's number.
 fn of_programme(out: &mut [u8], at: usize, role: &[u8], programme: u8) -> usize {
@@ -40,7 +41,7 @@ fn role(out: &mut [u8], at: usize, r: Role) -> usize {
     }
 }
 
-fn line(table: &[u8; 3232], name: u8)
+fn line(rt: &HostRuntime, table: &[u8; 3232], name: u8) -> Result<()>
     requires { table.now ≡ rows }
 {
     let mut out = [0u8; 64];
@@ -48,20 +49,21 @@ fn line(table: &[u8; 3232], name: u8)
     let at = print::name(table, &mut out, at, name, b' ');
     let at = role(&mut out, at, names::role_of(name));
     let at = put(&mut out, at, b"\n");
-    print::write(&out, at);
+    print::write(rt, &out, at)
 }
 
-fn lines(table: &[u8; 3232], all: [u8; 202])
+fn lines(rt: &HostRuntime, table: &[u8; 3232], all: [u8; 202]) -> Result<()>
     requires { table.now ≡ rows }
 {
     let mut i = 0;
     while i < 202 {
-        line(table, all[i]);
+        line(rt, table, all[i])?;
         i += 1;
     }
+    Ok(())
 }
 
-fn main() {
+fn main(rt: HostRuntime) -> Result<()> {
     let table = names::table();
-    lines(&table, names::all());
+    lines(&rt, &table, names::all())
 }

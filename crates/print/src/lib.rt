@@ -1,18 +1,33 @@
-// Text in a lent buffer, and the one function that writes it to standard output. A function that adds to a text takes the
-// buffer and how many bytes the text has so far, and gives how many it then has. What finds no room is left out.
+// Text in a lent buffer, the one function that writes it to standard output, and the one that reads standard input. A function
+// that adds to a text takes the buffer and how many bytes the text has so far, and gives how many it then has. What finds no room is left out.
 #![tactic(auto)]
 
-ghost use Rattle.std.specs.Prelude.{◌≡◌, [], ◌∷◌, ◌++◌, ◌-◌, ◌≤◌, min, nat_abs, length, replicate};
+ghost use Rattle.std.specs.Prelude.{◌≡◌, [], ◌∷◌, ◌++◌, ◌-◌, ◌≤◌, IfOk, min, nat_abs, length, replicate};
 ghost use Rattle.names.specs.Spelling.{spelling_of, rows};
 ghost use Rattle.print.specs.Text.{decimal_of, signed_of, right_of, Added};
 
-use libc::STDOUT_FILENO;
+use std::io::{Read, Result};
 
 // Writes the first bytes of a buffer to standard output. No contract can say what is written.
-pub fn write(text: &[u8], size: usize)
+pub fn write(rt: &impl Print, text: &[u8], size: usize) -> Result<()>
     requires { size ≤ length text.now }
 {
-    io::write_all(STDOUT_FILENO, &text[..size]);
+    rt.write_all(&text[..size])
+}
+
+// Reads until the buffer is full or the input ends, and says how many bytes it put at the start of the buffer.
+pub fn read_full<R: Read>(input: &mut R, bytes: &mut [u8]) -> Result<usize>
+    ensures { IfOk result (λ n. n ≤ length bytes.new) }
+{
+    let mut done = 0;
+    while done < bytes.len() {
+        let n = input.read(&mut bytes[done..])?;
+        if n == 0 {
+            break;
+        }
+        done += n;
+    }
+    Ok(done)
 }
 
 fn least(a: usize, b: usize) -> usize

@@ -16,9 +16,9 @@ use answer::{Answer, SlotBits, Verdict};
 use cases::same;
 use ingest::cases::{input_pair, length, pair, slice};
 use ingest::records_of;
-use libc::STDIN_FILENO;
 use listing::{first_line, text_of};
 use print::{decimal, put, write};
+use std::io::Result;
 use std::num::wrapping_add_u64;
 
 #[derive(Drop)]
@@ -28,10 +28,10 @@ struct Tally {
     differences: u64,
 }
 
-fn answer() -> [u8; 69] {
+fn answer(rt: &HostRuntime) -> Result<[u8; 69]> {
     let mut bytes = [0u8; 69];
-    io::read_full(STDIN_FILENO, &mut bytes);
-    bytes
+    print::read_full(&mut rt.stdin(), &mut bytes)?;
+    Ok(bytes)
 }
 
 // One more case, with the number of records that it has.
@@ -53,24 +53,24 @@ fn part(out: &mut [u8], at: usize, name: &[u8], n: u64) -> usize {
     decimal(out, at, n)
 }
 
-fn differs(t: Tally, case: usize) -> Tally {
+fn differs(rt: &HostRuntime, t: Tally, case: usize) -> Result<Tally> {
     let mut out = [0u8; 64];
     let at = part(&mut out, 0, b"case ", case as u64);
     let at = put(&mut out, at, b" differs\n");
-    write(&out, at);
+    write(rt, &out, at)?;
     let verdicts = t.verdicts;
-    Tally {
+    Ok(Tally {
         verdicts: verdicts,
         records: t.records,
         differences: wrapping_add_u64(t.differences, 1),
-    }
+    })
 }
 
 // The answer of a slice.
-fn answered(answer: Answer) {
+fn answered(rt: &HostRuntime, answer: Answer) -> Result<()> {
     let mut out = [0u8; 128];
     let n = first_line(&mut out, 0, answer);
-    write(&out, n);
+    write(rt, &out, n)
 }
 
 // The bits of the slots of a block.
@@ -85,7 +85,7 @@ fn bits_of_block(out: &mut [u8], at: usize, bits: [u16; 7]) -> usize {
 }
 
 // The bits of the slots of a frame, block by block.
-fn slot_bits(blocks: [SlotBits; 6]) {
+fn slot_bits(rt: &HostRuntime, blocks: [SlotBits; 6]) -> Result<()> {
     let mut out = [0u8; 320];
     let mut at = put(&mut out, 0, b"bits");
     let mut block = 0;
@@ -96,33 +96,33 @@ fn slot_bits(blocks: [SlotBits; 6]) {
         block += 1;
     }
     let at = put(&mut out, at, b"\n");
-    write(&out, at);
+    write(rt, &out, at)
 }
 
 // Number, place and count of a slice that is refused; the bits of the slots of one that is accepted.
-fn told(answer: Answer) {
+fn told(rt: &HostRuntime, answer: Answer) -> Result<()> {
     let verdict = answer.verdict;
     let frame = answer.frame;
     match verdict {
         Verdict::Accepted => {
             let blocks = frame.slot_bits;
-            slot_bits(blocks);
+            slot_bits(rt, blocks)
         }
-        Verdict::Refused(_, _, _) => answered(answer),
+        Verdict::Refused(_, _, _) => answered(rt, answer),
     }
 }
 
-fn one(t: Tally, case: usize) -> Tally {
-    let n = length(input_pair());
-    let bytes = slice(n);
-    let theirs = answer();
+fn one(rt: &HostRuntime, t: Tally, case: usize) -> Result<Tally> {
+    let n = length(input_pair(rt)?);
+    let bytes = slice(rt, n)?;
+    let theirs = answer(rt)?;
     let t = counted(t, theirs);
     let r = records_of(&bytes[..n]);
-    told(r.answer);
+    told(rt, r.answer)?;
     if same(r, theirs) {
-        return t;
+        return Ok(t);
     }
-    differs(t, case)
+    differs(rt, t, case)
 }
 
 fn verdicts_line(out: &mut [u8], at: usize, verdicts: [u64; 4]) -> usize {
@@ -132,7 +132,7 @@ fn verdicts_line(out: &mut [u8], at: usize, verdicts: [u64; 4]) -> usize {
     part(out, at, b" truncated ", verdicts[3])
 }
 
-fn print_tally(t: Tally, cases: usize) {
+fn print_tally(rt: &HostRuntime, t: Tally, cases: usize) -> Result<()> {
     let mut out = [0u8; 256];
     let at = part(&mut out, 0, b"cases ", cases as u64);
     let verdicts = t.verdicts;
@@ -140,11 +140,11 @@ fn print_tally(t: Tally, cases: usize) {
     let at = part(&mut out, at, b" records ", t.records);
     let at = part(&mut out, at, b" differences ", t.differences);
     let at = put(&mut out, at, b"\n");
-    write(&out, at);
+    write(rt, &out, at)
 }
 
-fn replay_all() {
-    let cases = input_pair();
+fn replay_all(rt: &HostRuntime) -> Result<()> {
+    let cases = input_pair(rt)?;
     let mut t = Tally {
         verdicts: [0; 4],
         records: 0,
@@ -152,40 +152,41 @@ fn replay_all() {
     };
     let mut case = 0;
     while case < cases {
-        t = one(t, case);
+        t = one(rt, t, case)?;
         case += 1;
     }
-    print_tally(t, cases);
+    print_tally(rt, t, cases)
 }
 
 // The answer of a slice, with its records or without.
-fn read(listed: usize, src: &[u8]) {
+fn read(rt: &HostRuntime, listed: usize, src: &[u8]) -> Result<()> {
     let r = records_of(src);
     if listed == 1 {
         let text = text_of(r);
         let bytes = text.bytes;
-        return write(&bytes, text.size);
+        return write(rt, &bytes, text.size);
     }
-    answered(r.answer);
+    answered(rt, r.answer)
 }
 
-fn further() {
-    let listed = input_pair();
-    let n = length(input_pair());
-    let bytes = slice(n);
-    read(listed, &bytes[..n]);
+fn further(rt: &HostRuntime) -> Result<()> {
+    let listed = input_pair(rt)?;
+    let n = length(input_pair(rt)?);
+    let bytes = slice(rt, n)?;
+    read(rt, listed, &bytes[..n])
 }
 
-fn answer_all() {
-    let slices = input_pair();
+fn answer_all(rt: &HostRuntime) -> Result<()> {
+    let slices = input_pair(rt)?;
     let mut i = 0;
     while i < slices {
-        further();
+        further(rt)?;
         i += 1;
     }
+    Ok(())
 }
 
-fn main() {
-    replay_all();
-    answer_all();
+fn main(rt: HostRuntime) -> Result<()> {
+    replay_all(&rt)?;
+    answer_all(&rt)
 }

@@ -13,6 +13,7 @@ use ingest::cases::{input_pair, length, slice};
 use listing::{Records, first_line};
 use print::{number, signed, signed_byte};
 use search::{Found, find};
+use std::io::Result;
 
 // The rooms of a case.
 #[derive(Drop)]
@@ -35,7 +36,15 @@ fn greatest(n: usize) -> usize {
     if n == 65535 { usize::MAX } else { n }
 }
 
-fn line(first: u16, width: u16, name: u8, block: i8, index: i16, value: u32) {
+fn line(
+    rt: &HostRuntime,
+    first: u16,
+    width: u16,
+    name: u8,
+    block: i8,
+    index: i16,
+    value: u32,
+) -> Result<()> {
     let mut out = [0u8; 64];
     let at = number(&mut out, 0, first as u64, b' ');
     let at = number(&mut out, at, width as u64, b' ');
@@ -43,35 +52,44 @@ fn line(first: u16, width: u16, name: u8, block: i8, index: i16, value: u32) {
     let at = signed_byte(&mut out, at, block, b' ');
     let at = signed(&mut out, at, index, b' ');
     let at = number(&mut out, at, value as u64, b'\n');
-    print::write(&out, at);
+    print::write(rt, &out, at)
 }
 
-fn lines(r: Records, listed: usize) {
+fn lines(rt: &HostRuntime, r: Records, listed: usize) -> Result<()> {
     let mut i = 0;
     while i < 2048 {
         if i < listed {
             line(
+                rt,
                 r.firsts[i],
                 r.widths[i],
                 r.names[i],
                 r.blocks[i],
                 r.indexes[i],
                 r.values[i],
-            );
+            )?;
         }
         i += 1;
     }
+    Ok(())
 }
 
-fn tell(answer: Answer, position: usize, tried: usize) {
+fn tell(rt: &HostRuntime, answer: Answer, position: usize, tried: usize) -> Result<()> {
     let mut out = [0u8; 256];
     let at = first_line(&mut out, 0, answer);
     let at = number(&mut out, at, position as u64, b' ');
     let at = number(&mut out, at, tried as u64, b'\n');
-    print::write(&out, at);
+    print::write(rt, &out, at)
 }
 
-fn case(capture: &[u8], rooms: Rooms, start: usize, most: usize, listed: usize) {
+fn case(
+    rt: &HostRuntime,
+    capture: &[u8],
+    rooms: Rooms,
+    start: usize,
+    most: usize,
+    listed: usize,
+) -> Result<()> {
     let mut names: [u8; 2048] = [0; 2048];
     let mut blocks: [i8; 2048] = [0; 2048];
     let mut indexes: [i16; 2048] = [0; 2048];
@@ -96,8 +114,9 @@ fn case(capture: &[u8], rooms: Rooms, start: usize, most: usize, listed: usize) 
         most,
     );
     let answer = found.answer;
-    tell(answer, found.position, found.tried);
+    tell(rt, answer, found.position, found.tried)?;
     lines(
+        rt,
         Records {
             answer: answer,
             names: names,
@@ -108,41 +127,42 @@ fn case(capture: &[u8], rooms: Rooms, start: usize, most: usize, listed: usize) 
             values: values,
         },
         listed,
-    );
+    )
 }
 
-fn input_rooms() -> Rooms {
-    let names = input_pair();
-    let blocks = input_pair();
-    let indexes = input_pair();
-    let firsts = input_pair();
-    let widths = input_pair();
-    let values = input_pair();
-    Rooms {
+fn input_rooms(rt: &HostRuntime) -> Result<Rooms> {
+    let names = input_pair(rt)?;
+    let blocks = input_pair(rt)?;
+    let indexes = input_pair(rt)?;
+    let firsts = input_pair(rt)?;
+    let widths = input_pair(rt)?;
+    let values = input_pair(rt)?;
+    Ok(Rooms {
         names: names,
         blocks: blocks,
         indexes: indexes,
         firsts: firsts,
         widths: widths,
         values: values,
-    }
+    })
 }
 
-fn one() {
-    let listed = input_pair();
-    let rooms = input_rooms();
-    let start = greatest(input_pair());
-    let most = greatest(input_pair());
-    let n = length(input_pair());
-    let bytes = slice(n);
-    case(&bytes[..n], rooms, start, most, listed);
+fn one(rt: &HostRuntime) -> Result<()> {
+    let listed = input_pair(rt)?;
+    let rooms = input_rooms(rt)?;
+    let start = greatest(input_pair(rt)?);
+    let most = greatest(input_pair(rt)?);
+    let n = length(input_pair(rt)?);
+    let bytes = slice(rt, n)?;
+    case(rt, &bytes[..n], rooms, start, most, listed)
 }
 
-fn main() {
-    let cases = input_pair();
+fn main(rt: HostRuntime) -> Result<()> {
+    let cases = input_pair(&rt)?;
     let mut i = 0;
     while i < cases {
-        one();
+        one(&rt)?;
         i += 1;
     }
+    Ok(())
 }

@@ -7,6 +7,7 @@ ghost use Rattle.std.specs.Prelude.{◌≤◌};
 
 use gain_range::{FrameGains, gain_range};
 use ingest::cases::{input_pair, length, slice};
+use std::io::Result;
 
 fn room_of(room: usize) -> usize
     ensures { result ≤ 2048 }
@@ -33,18 +34,19 @@ fn gains_of(src: &[u8], room: usize) -> FrameGains {
     )
 }
 
-fn one() {
-    let room = input_pair();
-    let n = length(input_pair());
-    let bytes = slice(n);
-    gain_lines::tell(gains_of(&bytes[..n], room));
+fn one(rt: &HostRuntime) -> Result<()> {
+    let room = input_pair(rt)?;
+    let n = length(input_pair(rt)?);
+    let bytes = slice(rt, n)?;
+    gain_lines::tell(rt, gains_of(&bytes[..n], room))
 }
 
-fn main() {
-    let cases = input_pair();
+fn main(rt: HostRuntime) -> Result<()> {
+    let cases = input_pair(&rt)?;
     let mut i = 0;
     while i < cases {
-        one();
+        one(&rt)?;
         i += 1;
     }
+    Ok(())
 }

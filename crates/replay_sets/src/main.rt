@@ -11,6 +11,7 @@ use ingest::cases::{input_pair, length, slice};
 use listing::{Records, first_line, text_of};
 use mastering::set_words;
 use print::write;
+use std::io::Result;
 
 // The words at the places, set, with room for 2,048 records.
 fn set(frame: &mut [u8], places: &[usize], words: &[u32]) -> Records {
@@ -42,20 +43,26 @@ fn set(frame: &mut [u8], places: &[usize], words: &[u32]) -> Records {
     }
 }
 
-fn tell(listed: usize, r: Records) {
+fn tell(rt: &HostRuntime, listed: usize, r: Records) -> Result<()> {
     if listed == 1 {
         let text = text_of(r);
         let bytes = text.bytes;
-        return write(&bytes, text.size);
+        return write(rt, &bytes, text.size);
     }
     let mut out = [0u8; 128];
     let n = first_line(&mut out, 0, r.answer);
-    write(&out, n);
+    write(rt, &out, n)
 }
 
-fn case(listed: usize, places: &[usize], words: &[u32], frame: &mut [u8]) {
-    tell(listed, set(frame, places, words));
-    write(frame, frame.len());
+fn case(
+    rt: &HostRuntime,
+    listed: usize,
+    places: &[usize],
+    words: &[u32],
+    frame: &mut [u8],
+) -> Result<()> {
+    tell(rt, listed, set(frame, places, words))?;
+    write(rt, frame, frame.len())
 }
 
 fn up_to_20(n: usize) -> usize
@@ -64,42 +71,49 @@ fn up_to_20(n: usize) -> usize
     if n < 20 { n } else { 20 }
 }
 
-fn twenty_places() -> [usize; 20] {
+fn twenty_places(rt: &HostRuntime) -> Result<[usize; 20]> {
     let mut places = [0usize; 20];
     let mut k = 0;
     while k < 20 {
-        places[k] = input_pair();
+        places[k] = input_pair(rt)?;
         k += 1;
     }
-    places
+    Ok(places)
 }
 
-fn twenty_words() -> [u32; 20] {
+fn twenty_words(rt: &HostRuntime) -> Result<[u32; 20]> {
     let mut words = [0u32; 20];
     let mut k = 0;
     while k < 20 {
-        words[k] = input_pair() as u32;
+        words[k] = input_pair(rt)? as u32;
         k += 1;
     }
-    words
+    Ok(words)
 }
 
-fn one() {
-    let listed = input_pair();
-    let lent = up_to_20(input_pair());
-    let beside = up_to_20(input_pair());
-    let places = twenty_places();
-    let words = twenty_words();
-    let n = length(input_pair());
-    let mut bytes = slice(n);
-    case(listed, &places[..lent], &words[..beside], &mut bytes[..n]);
+fn one(rt: &HostRuntime) -> Result<()> {
+    let listed = input_pair(rt)?;
+    let lent = up_to_20(input_pair(rt)?);
+    let beside = up_to_20(input_pair(rt)?);
+    let places = twenty_places(rt)?;
+    let words = twenty_words(rt)?;
+    let n = length(input_pair(rt)?);
+    let mut bytes = slice(rt, n)?;
+    case(
+        rt,
+        listed,
+        &places[..lent],
+        &words[..beside],
+        &mut bytes[..n],
+    )
 }
 
-fn main() {
-    let cases = input_pair();
+fn main(rt: HostRuntime) -> Result<()> {
+    let cases = input_pair(&rt)?;
     let mut i = 0;
     while i < cases {
-        one();
+        one(&rt)?;
         i += 1;
     }
+    Ok(())
 }

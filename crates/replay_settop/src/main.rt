@@ -9,6 +9,7 @@ use answer::Answer;
 use ingest::cases::{input_pair, length, slice};
 use listing::{Records, first_line, text_of};
 use print::write;
+use std::io::Result;
 
 fn room_of(room: usize) -> usize
     ensures { result ≤ 2048 }
@@ -65,35 +66,36 @@ fn settop(src: &[u8], room: usize) -> Records {
     }
 }
 
-fn answered(answer: Answer) {
+fn answered(rt: &HostRuntime, answer: Answer) -> Result<()> {
     let mut out = [0u8; 128];
     let n = first_line(&mut out, 0, answer);
-    write(&out, n);
+    write(rt, &out, n)
 }
 
-fn listed(r: Records) {
+fn listed(rt: &HostRuntime, r: Records) -> Result<()> {
     let text = text_of(r);
     let bytes = text.bytes;
-    write(&bytes, text.size);
+    write(rt, &bytes, text.size)
 }
 
-fn case(room: usize, src: &[u8]) {
-    answered(full(src, room));
-    listed(settop(src, room));
+fn case(rt: &HostRuntime, room: usize, src: &[u8]) -> Result<()> {
+    answered(rt, full(src, room))?;
+    listed(rt, settop(src, room))
 }
 
-fn one() {
-    let room = input_pair();
-    let n = length(input_pair());
-    let bytes = slice(n);
-    case(room, &bytes[..n]);
+fn one(rt: &HostRuntime) -> Result<()> {
+    let room = input_pair(rt)?;
+    let n = length(input_pair(rt)?);
+    let bytes = slice(rt, n)?;
+    case(rt, room, &bytes[..n])
 }
 
-fn main() {
-    let cases = input_pair();
+fn main(rt: HostRuntime) -> Result<()> {
+    let cases = input_pair(&rt)?;
     let mut i = 0;
     while i < cases {
-        one();
+        one(&rt)?;
         i += 1;
     }
+    Ok(())
 }

@@ -9,6 +9,7 @@ use ingest::cases::{input_pair, length, slice};
 use listing::{Records, first_line, text_of};
 use mastering::set_word;
 use print::write;
+use std::io::Result;
 
 // The word at a place, set, with room for 2,048 records.
 fn set(frame: &mut [u8], place: usize, value: u32) -> Records {
@@ -40,36 +41,37 @@ fn set(frame: &mut [u8], place: usize, value: u32) -> Records {
     }
 }
 
-fn tell(listed: usize, r: Records) {
+fn tell(rt: &HostRuntime, listed: usize, r: Records) -> Result<()> {
     if listed == 1 {
         let text = text_of(r);
         let bytes = text.bytes;
-        return write(&bytes, text.size);
+        return write(rt, &bytes, text.size);
     }
     let mut out = [0u8; 128];
     let n = first_line(&mut out, 0, r.answer);
-    write(&out, n);
+    write(rt, &out, n)
 }
 
-fn case(listed: usize, place: usize, value: u32, frame: &mut [u8]) {
-    tell(listed, set(frame, place, value));
-    write(frame, frame.len());
+fn case(rt: &HostRuntime, listed: usize, place: usize, value: u32, frame: &mut [u8]) -> Result<()> {
+    tell(rt, listed, set(frame, place, value))?;
+    write(rt, frame, frame.len())
 }
 
-fn one() {
-    let listed = input_pair();
-    let place = input_pair();
-    let value = input_pair();
-    let n = length(input_pair());
-    let mut bytes = slice(n);
-    case(listed, place, value as u32, &mut bytes[..n]);
+fn one(rt: &HostRuntime) -> Result<()> {
+    let listed = input_pair(rt)?;
+    let place = input_pair(rt)?;
+    let value = input_pair(rt)?;
+    let n = length(input_pair(rt)?);
+    let mut bytes = slice(rt, n)?;
+    case(rt, listed, place, value as u32, &mut bytes[..n])
 }
 
-fn main() {
-    let cases = input_pair();
+fn main(rt: HostRuntime) -> Result<()> {
+    let cases = input_pair(&rt)?;
     let mut i = 0;
     while i < cases {
-        one();
+        one(&rt)?;
         i += 1;
     }
+    Ok(())
 }

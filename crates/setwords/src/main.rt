@@ -8,10 +8,11 @@ ghost use Rattle.std.specs.Prelude.{◌≤◌, length};
 
 use answer::{Answer, Verdict};
 use ingest::records_of;
-use libc::{STDERR_FILENO, STDIN_FILENO, STDOUT_FILENO};
 use listing::Records;
 use mastering::set_words;
 use print::{decimal, number, put};
+use std::env::{Env, FillError};
+use std::io::Result;
 use word_items::{NO_NAME, NO_NUMBER, Place, last, name_of, number_of, place_of};
 
 // What an item asks for. The fault is 0; 1, it cannot be understood; 2, the frame has no such word; 3, it has more than one.
@@ -72,20 +73,31 @@ fn as_bytes(blocks: [i8; 2048]) -> [u8; 2048] {
     bytes
 }
 
-fn less(a: usize, b: usize) -> usize {
-    if b < a { a - b } else { 0 }
-}
-
 fn up_to(n: usize, most: usize) -> usize
     ensures { (result ≤ n) × (result ≤ most) }
 {
     if n < most { n } else { most }
 }
 
-fn up_to_17(n: usize) -> usize
+// Whether there is an argument, of any length.
+fn is_given(rt: &HostRuntime, i: usize) -> bool {
+    let mut text = [0u8; 64];
+    match rt.arg(i, &mut text) {
+        Ok(_) => true,
+        Err(FillError::TooLong) => true,
+        Err(FillError::NotPresent) => false,
+    }
+}
+
+// How many arguments there are behind the program's name, up to 17.
+fn up_to_17(rt: &HostRuntime) -> usize
     ensures { result ≤ 17 }
 {
-    if n < 17 { n } else { 17 }
+    let mut n = 0;
+    while n < 17 && is_given(rt, n + 1) {
+        n += 1;
+    }
+    n
 }
 
 // A word by its name and, in brackets, its block.
@@ -150,15 +162,31 @@ struct Items {
     stopped: usize,
 }
 
-fn item_at(i: usize, names: &[u8; 2048], blocks: &[u8; 2048], count: usize) -> Item
+// The bytes of an argument, or none where it has more than there is room for.
+fn argument(rt: &HostRuntime, i: usize, text: &mut [u8]) -> usize
+    ensures { result ≤ length text.new }
+{
+    match rt.arg(i, text) {
+        Ok(n) => n,
+        Err(_) => 0,
+    }
+}
+
+fn item_at(
+    rt: &HostRuntime,
+    i: usize,
+    names: &[u8; 2048],
+    blocks: &[u8; 2048],
+    count: usize,
+) -> Item
     requires { count ≤ 2048 }
 {
     let mut text = [0u8; 64];
-    let n = os::arg(i, &mut text);
+    let n = argument(rt, i, &mut text);
     item_of(&text[..n], names, blocks, count)
 }
 
-fn items_of(n: usize, r: Records, count: usize) -> Items
+fn items_of(rt: &HostRuntime, n: usize, r: Records, count: usize) -> Items
     requires { (n ≤ 17) × (count ≤ 2048) }
 {
     let names = r.names;
@@ -169,7 +197,7 @@ fn items_of(n: usize, r: Records, count: usize) -> Items
     let mut fault = 0;
     let mut t = 0;
     while t < n && fault == 0 {
-        let item = item_at(t + 1, &names, &blocks, count);
+        let item = item_at(rt, t + 1, &names, &blocks, count);
         places[t] = item.place;
         words[t] = item.word;
         fault = item.fault;
@@ -184,10 +212,10 @@ fn items_of(n: usize, r: Records, count: usize) -> Items
     }
 }
 
-fn tell(text: &[u8], size: usize)
+fn tell(rt: &HostRuntime, text: &[u8], size: usize) -> Result<()>
     requires { size ≤ length text.now }
 {
-    io::write_all(STDERR_FILENO, &text[..size]);
+    rt.stderr().write_all(&text[..size])
 }
 
 fn why_item(fault: u8, out: &mut [u8], at: usize) -> usize {
@@ -209,12 +237,12 @@ fn why_item(fault: u8, out: &mut [u8], at: usize) -> usize {
 }
 
 // Which item is faulty, and why.
-fn tell_item(fault: u8, ordinal: usize) {
+fn tell_item(rt: &HostRuntime, fault: u8, ordinal: usize) -> Result<()> {
     let mut out = [0u8; 128];
     let at = put(&mut out, 0, b"item ");
     let at = number(&mut out, at, ordinal as u64, b' ');
     let at = why_item(fault, &mut out, at);
-    tell(&out, up_to(at, 128));
+    tell(rt, &out, up_to(at, 128))
 }
 
 // Refusals of the header.
@@ -369,43 +397,44 @@ fn why(refusal: u8, out: &mut [u8], at: usize) -> usize {
 }
 
 // A refusal: number, bit place, and what it means.
-fn tell_refusal(refusal: u8, place: u64) {
+fn tell_refusal(rt: &HostRuntime, refusal: u8, place: u64) -> Result<()> {
     let mut out = [0u8; 128];
     let at = put(&mut out, 0, b"refused ");
     let at = number(&mut out, at, refusal as u64, b' ');
     let at = put(&mut out, at, b"at bit ");
     let at = decimal(&mut out, at, place);
     let at = why(refusal, &mut out, at);
-    tell(&out, up_to(at, 128));
+    tell(rt, &out, up_to(at, 128))
 }
 
-fn pass_some() -> bool {
-    let mut bytes = io::buffer();
-    let n = io::read_full(STDIN_FILENO, &mut bytes);
-    io::write_all(STDOUT_FILENO, &bytes[..n]);
-    n == 4096
+fn pass_some(rt: &HostRuntime) -> Result<bool> {
+    let mut bytes = [0u8; 4096];
+    let n = print::read_full(&mut rt.stdin(), &mut bytes)?;
+    print::write(rt, &bytes, n)?;
+    Ok(n == 4096)
 }
 
 // Passes on the rest of the input.
-fn pass_rest() {
+fn pass_rest(rt: &HostRuntime) -> Result<()> {
     let mut turns = u64::MAX;
     while turns != 0 {
-        if !pass_some() {
-            return;
+        if !pass_some(rt)? {
+            return Ok(());
         }
         turns -= 1;
     }
+    Ok(())
 }
 
 // Writes the changed bytes and what follows them, or tells the refusal.
-fn answered(answer: Answer, bytes: &[u8]) {
+fn answered(rt: &HostRuntime, answer: Answer, bytes: &[u8]) -> Result<()> {
     let verdict = answer.verdict;
     match verdict {
         Verdict::Accepted => {
-            io::write_all(STDOUT_FILENO, bytes);
-            pass_rest()
+            print::write(rt, bytes, bytes.len())?;
+            pass_rest(rt)
         }
-        Verdict::Refused(refusal, place, _) => tell_refusal(refusal, place.0 as u64),
+        Verdict::Refused(refusal, place, _) => tell_refusal(rt, refusal, place.0 as u64),
     }
 }
 
@@ -436,33 +465,33 @@ fn set_some(bytes: &mut [u8], places: &[usize], words: &[u32], size: usize) -> A
     set(bytes, &places[..n], &words[..m])
 }
 
-fn set_items(bytes: &mut [u8], items: Items) {
+fn set_items(rt: &HostRuntime, bytes: &mut [u8], items: Items) -> Result<()> {
     if items.fault != 0 {
-        return tell_item(items.fault, items.stopped);
+        return tell_item(rt, items.fault, items.stopped);
     }
     let places = items.places;
     let words = items.words;
     let answer = set_some(bytes, &places, &words, items.size);
-    answered(answer, bytes);
+    answered(rt, answer, bytes)
 }
 
 // Of a refused frame no item is looked at.
-fn run(bytes: &mut [u8]) {
+fn run(rt: &HostRuntime, bytes: &mut [u8]) -> Result<()> {
     let read = records_of(bytes);
     let answer = read.answer;
     let verdict = answer.verdict;
     match verdict {
         Verdict::Accepted => {
             let count = up_to(answer.frame.fields, 2048);
-            let n = up_to_17(less(os::arg_count(), 1));
-            set_items(bytes, items_of(n, read, count))
+            let n = up_to_17(rt);
+            set_items(rt, bytes, items_of(rt, n, read, count))
         }
-        Verdict::Refused(refusal, place, _) => tell_refusal(refusal, place.0 as u64),
+        Verdict::Refused(refusal, place, _) => tell_refusal(rt, refusal, place.0 as u64),
     }
 }
 
-fn main() {
-    let mut bytes = io::buffer();
-    let n = io::read_full(STDIN_FILENO, &mut bytes);
-    run(&mut bytes[..n]);
+fn main(rt: HostRuntime) -> Result<()> {
+    let mut bytes = [0u8; 4096];
+    let n = print::read_full(&mut rt.stdin(), &mut bytes)?;
+    run(&rt, &mut bytes[..n])
 }

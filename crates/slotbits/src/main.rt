@@ -1,9 +1,9 @@
 // The bits of the slots of the frame on standard input, as a table.
 #![tactic(auto)]
 
-fn main() {
-    let records = ingest::input();
+fn main(rt: HostRuntime) -> std::io::Result<()> {
+    let records = ingest::input(&rt)?;
     let text = slot_table::text_of(records.answer);
     let bytes = text.bytes;
-    print::write(&bytes, text.size);
+    print::write(&rt, &bytes, text.size)
 }

@@ -1,5 +1,5 @@
 -- The slots of a block (A/52 clauses 5.3.3 and E2.2.4, TS 102 366 clauses 4.3.3 and E.1.2.4).
-use Rattle.std.specs.Prelude.{Bool, true, false, ◌&&◌, not, cond, List, ℕ, ◌+◌, ◌*◌, min, eqb, ltb, get_or}
+use Rattle.std.specs.Prelude.{Bool, false, ◌&&◌, not, cond, List, ℕ, ◌+◌, ◌*◌, min, eqb, ltb, get_or}
 use Rattle.slots.specs.declared.Shape.{Shape}
 use Rattle.slots.specs.declared.Range.{Range}
 

@@ -1,8 +1,8 @@
 // The exponent strategies of the frame on standard input, as a table.
 #![tactic(auto)]
 
-fn main() {
-    let text = strategy_table::text_of(ingest::input());
+fn main(rt: HostRuntime) -> std::io::Result<()> {
+    let text = strategy_table::text_of(ingest::input(&rt)?);
     let bytes = text.bytes;
-    print::write(&bytes, text.size);
+    print::write(&rt, &bytes, text.size)
 }

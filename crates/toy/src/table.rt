@@ -47,7 +47,7 @@ pub const TABLE: [u64; 81] = [
     281474976874894, // sets: each CH (from 0) (upto NFCHANS)
     54043745268582009, // sets: when (Not (at2 CHEXPSTR CH BLK) 0)
     1718025602561, // sets: element exps_ch_0 (by CH) 4 (cell ABSEXP)
-    1717987018239, // sets: exponents (slot-of CH) exps_ch (by CH)
+    1717987018239, // sets: exponents (slot_of CH) exps_ch (by CH)
     1717986928545, // sets: element gainrng (by CH) 2 no
     72057594054705816, // sets: when (Is (cell LFEON) 1)
     288233457, // sets: element lfeexpstr none 1 (at LFEEXPSTR BLK)

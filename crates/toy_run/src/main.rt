@@ -4,11 +4,19 @@
 
 ghost use Rattle.std.specs.Prelude.{◌<◌, ◌≤◌};
 
-use libc::STDIN_FILENO;
 use print::{number, put, signed, signed_byte};
+use std::io::Result;
 use syntax::Cursor;
 
-fn line(first: u16, width: u16, name: u8, block: i8, index: i16, value: u32) {
+fn line(
+    rt: &HostRuntime,
+    first: u16,
+    width: u16,
+    name: u8,
+    block: i8,
+    index: i16,
+    value: u32,
+) -> Result<()> {
     let mut out = [0u8; 64];
     let at = number(&mut out, 0, first as u64, b' ');
     let at = number(&mut out, at, width as u64, b' ');
@@ -16,7 +24,7 @@ fn line(first: u16, width: u16, name: u8, block: i8, index: i16, value: u32) {
     let at = signed_byte(&mut out, at, block, b' ');
     let at = signed(&mut out, at, index, b' ');
     let at = number(&mut out, at, value as u64, b'\n');
-    print::write(&out, at);
+    print::write(rt, &out, at)
 }
 
 // Whether the frame was accepted, or the number of the refusal.
@@ -28,15 +36,16 @@ fn verdict(out: &mut [u8], c: Cursor) -> usize {
     put(out, 0, b"accepted ")
 }
 
-fn answer(c: Cursor) {
+fn answer(rt: &HostRuntime, c: Cursor) -> Result<()> {
     let mut out = [0u8; 64];
     let at = verdict(&mut out, c);
     let at = number(&mut out, at, c.at.0 as u64, b' ');
     let at = number(&mut out, at, c.count as u64, b'\n');
-    print::write(&out, at);
+    print::write(rt, &out, at)
 }
 
 fn lines(
+    rt: &HostRuntime,
     count: usize,
     firsts: [u16; 128],
     widths: [u16; 128],
@@ -44,19 +53,20 @@ fn lines(
     blocks: [i8; 128],
     indexes: [i16; 128],
     values: [u32; 128],
-) {
+) -> Result<()> {
     let mut i = 0;
     while i < 128 {
         if i < count {
             line(
-                firsts[i], widths[i], names[i], blocks[i], indexes[i], values[i],
-            );
+                rt, firsts[i], widths[i], names[i], blocks[i], indexes[i], values[i],
+            )?;
         }
         i += 1;
     }
+    Ok(())
 }
 
-fn run(frame: &[u8]) {
+fn run(rt: &HostRuntime, frame: &[u8]) -> Result<()> {
     let mut names: [u8; 128] = [0; 128];
     let mut blocks: [i8; 128] = [0; 128];
     let mut indexes: [i16; 128] = [0; 128];
@@ -72,8 +82,8 @@ fn run(frame: &[u8]) {
         &mut widths,
         &mut values,
     );
-    answer(c);
-    lines(c.count, firsts, widths, names, blocks, indexes, values);
+    answer(rt, c)?;
+    lines(rt, c.count, firsts, widths, names, blocks, indexes, values)
 }
 
 fn end_of(at: usize, n: usize, len: u8) -> usize
@@ -84,15 +94,16 @@ fn end_of(at: usize, n: usize, len: u8) -> usize
     if step < n - at { at + step } else { n }
 }
 
-fn main() {
-    let mut input = io::buffer();
-    let n = io::read_full(STDIN_FILENO, &mut input);
+fn main(rt: HostRuntime) -> Result<()> {
+    let mut input = [0u8; 4096];
+    let n = print::read_full(&mut rt.stdin(), &mut input)?;
     let data: &[u8] = &input[..n];
     let mut at: usize = 0;
     while at < data.len() {
         let next = at + 1;
         let end = end_of(at, data.len(), data[at]);
-        run(&data[next..end]);
+        run(&rt, &data[next..end])?;
         at = end;
     }
+    Ok(())
 }

@@ -12,7 +12,7 @@ first_stale-first-requires c = (c.requires.2.tallies.size, c.own_words-own.ensur
 
 pub returns-then-first-ge7 : goal.returns-then-first-ge7
 returns-then-first-ge7 c = (
-  sent _ _ _ _ _ _ _ refl _ c.parameters-1.given.1 _
+  sent _ _ _ _ _ _ _ refl _ c.in-Sent.is _
       (sym (c.first_stale-first.ensures.there _ _ c.requires.2 ∙ points-done _ _ _ _ _ _ _ _ c.if-first-ge7.true) ∙ points-are _ _ _ _ _ _ _ _ _ _ c.own_words-own.ensures c.common_of-common.ensures _ _ 0 7 (omega arith)),
   c.requires.2,
 )
@@ -22,7 +22,7 @@ point_slots-requires c = (c.requires.0, c.requires.2, c.own_words-own.ensures.si
 
 pub returns : goal.returns
 returns c = (
-  sent _ _ _ _ _ _ _ refl _ c.parameters-1.given.1 _
+  sent _ _ _ _ _ _ _ refl _ c.in-Sent.is _
       (c.point_slots.ensures.0 ∙ sym (c.first_stale-first.ensures.there _ _ c.requires.2) ∙ points-are _ _ _ _ _ _ _ _ _ _ c.own_words-own.ensures c.common_of-common.ensures _ _ 0 7 (omega arith)),
   c.point_slots.ensures.1,
 )

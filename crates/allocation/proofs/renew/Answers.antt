@@ -7,13 +7,18 @@ use Rattle.allocation.proofs.renew.Goals as goal
 pub allocate-tally-requires : goal.allocate-tally-requires
 allocate-tally-requires c =
     let pre = c.requires in
-    let k = channelled _ pre.held.0.2 _ _ c.channel_in-c.ensures _ c.kind_in-kind.ensures _ c.leak_in-l.ensures _ c.deltas_in-d.ensures _ pre.held.1.0 pre.held.1.1 in
-    (pre.lent.0, ((exps-part _ _ pre.held.0.0 pre.held.0.2 _ _ k.within, part-sized _ _ pre.held.0.1.tallies.sized pre.held.0.2), ((k, rw pre.held.1.0 (codes-tuned _ _ _ _ _ _ pre.held.1.1.rate)), rw pre.lent.1 shares-small)))
+    let k = channelled _ pre.held.2 _ _ c.channel_in-c.ensures _ c.kind_in-kind.ensures _ c.leak_in-l.ensures _ c.deltas_in-d.ensures _ pre.p_value.0 pre.p_value.1 in
+    record {
+      lent = pre.lent.0;
+      exponents = (exps-part _ _ pre.held.0 pre.held.2 _ _ k.within, part-sized _ _ pre.held.1.tallies.sized pre.held.2);
+      channelled = (k, rw pre.p_value.0 (codes-tuned _ _ _ _ _ _ pre.p_value.1.rate));
+      by_index = rw pre.lent.1 shares-small;
+    }
 
 pub note-requires : goal.note-requires
-note-requires c = (c.requires.held.0.1.tallies.size, c.requires.held.0.2)
+note-requires c = (c.requires.held.1.tallies.size, c.requires.held.2)
 
 pub returns : goal.returns
 returns c =
     let pre = c.requires in
-    renewed _ pre.held.0.2 _ _ c.channel_in-c.ensures _ c.kind_in-kind.ensures _ c.leak_in-l.ensures _ c.deltas_in-d.ensures _ pre.held.1.0 _ _ _ _ _ _ _ pre.held.0.1 c.allocate-tally.ensures.out_after c.allocate-tally.ensures.value pre.lent.1 c.note.ensures
+    renewed _ pre.held.2 _ _ c.channel_in-c.ensures _ c.kind_in-kind.ensures _ c.leak_in-l.ensures _ c.deltas_in-d.ensures _ pre.p_value.0 _ _ _ _ _ _ _ pre.held.1 c.allocate-tally.ensures.out_after c.allocate-tally.ensures.value pre.lent.1 c.note.ensures

@@ -1,4 +1,3 @@
-use mathlib.Core.Logic.{⊎_elim}
 use mathlib.Core.Path.{◌≡◌, ap, ◌∙◌}
 use native.Mathlib.Omega.{arith}
 use Prim.Native.Nat.{◌<◌, ◌+◌, ◌-◌}
@@ -7,6 +6,7 @@ use Rattle.tables.specs.Bands.{band_of}
 use Rattle.tables.proofs.Bins.{own-band}
 use Rattle.band_sums.proofs.Sums.{band-high, band-opens, sums_none, sums-more, powers-none, powers-more, next-bin, opened-sum, opened-sums, same_bin, added-sum, added-sums}
 use Rattle.band_sums.proofs.bands.Goals as goal
+use Rattle.band_sums.proofs.bands.Goals.{then-j-to, else-j-to}
 
 pub bounds-exps-start : goal.bounds-exps-start
 bounds-exps-start c = omega (arith, c.requires.start_lt_end.2.size, c.requires.start_lt_end.0, c.requires.start_lt_end.1)
@@ -98,19 +98,19 @@ loop-j-preserved c =
     ap (λ l. set l j c.below-in-loop-j.result) i.7
     ∙ powers-more a.exps.now a.start j c.below-in-loop-j.result (omega (arith, i.0)) (omega arith) c.below-in-loop-j.ensures in
     let p = c.power-p.ensures in
-    ⊎_elim
-    (λ w.
-    let b = next-bin a.exps.now a.start j c.loop-j.k c.loop-j.to c.loop-j.s c.loop-j.bnd i.0 low i.2 i.3 i.4 i.8 (omega (arith, w.0.taken)) in
-    let s = opened-sum a.exps.now a.start j c.loop-j.k c.loop-j.to c.loop-j.s c.loop-j.bnd i.0 low i.2 i.3 i.4 i.8 (omega (arith, w.0.taken)) in
-    let l = opened-sums a.exps.now a.start j c.loop-j.k c.loop-j.to c.loop-j.s c.loop-j.bnd i.0 low i.2 i.3 i.4 i.8 (omega (arith, w.0.taken)) in
-    (omega (arith, i.0), omega arith, rw (z, w.4) b, rw (w.5, w.4) w.1.ensures, rw (w.3, w.4, p) s, size, rw w.2 (simp length-set i.6), powers, rw (w.2, w.3, w.4, p) l))
-    (λ w.
-    let inside : c.loop-j.j ≡ c.loop-j.to → ⊥ = omega (arith, w.0.left) in
-    let b = same_bin a.exps.now a.start j c.loop-j.k c.loop-j.to c.loop-j.s c.loop-j.bnd i.0 low i.2 i.3 i.4 i.8 inside in
-    let s = added-sum a.exps.now a.start j c.loop-j.k c.loop-j.to c.loop-j.s c.loop-j.bnd i.0 low i.2 i.3 i.4 i.8 inside in
-    let l = added-sums a.exps.now a.start j c.loop-j.k c.loop-j.to c.loop-j.s c.loop-j.bnd i.0 low i.2 i.3 i.4 i.8 inside in
-    (omega (arith, i.0), omega arith, rw (z, w.4) b, rw (w.5, w.4) i.3, rw (w.3, w.4, w.1.ensures.sum, p) s, size, rw w.2 i.6, powers, rw (w.2, w.3, w.4, w.1.ensures.sum, p) l))
-    c.if-j-to.branch
+    elim c.if-j-to.branch [
+      | then-j-to w ↦
+          let b = next-bin a.exps.now a.start j c.loop-j.k c.loop-j.to c.loop-j.s c.loop-j.bnd i.0 low i.2 i.3 i.4 i.8 (omega (arith, w.if-j-to.true)) in
+          let s = opened-sum a.exps.now a.start j c.loop-j.k c.loop-j.to c.loop-j.s c.loop-j.bnd i.0 low i.2 i.3 i.4 i.8 (omega (arith, w.if-j-to.true)) in
+          let l = opened-sums a.exps.now a.start j c.loop-j.k c.loop-j.to c.loop-j.s c.loop-j.bnd i.0 low i.2 i.3 i.4 i.8 (omega (arith, w.if-j-to.true)) in
+          (omega (arith, i.0), omega arith, rw (z, w.k-is) b, rw (w.to-is, w.k-is) w.end_of-to-then-j-to.ensures, rw (w.s-is, w.k-is, p) s, size, rw w.bnd-is (simp length-set i.6), powers, rw (w.bnd-is, w.s-is, w.k-is, p) l)
+      | else-j-to w ↦
+          let inside : c.loop-j.j ≡ c.loop-j.to → ⊥ = omega (arith, w.if-j-to.false) in
+          let b = same_bin a.exps.now a.start j c.loop-j.k c.loop-j.to c.loop-j.s c.loop-j.bnd i.0 low i.2 i.3 i.4 i.8 inside in
+          let s = added-sum a.exps.now a.start j c.loop-j.k c.loop-j.to c.loop-j.s c.loop-j.bnd i.0 low i.2 i.3 i.4 i.8 inside in
+          let l = added-sums a.exps.now a.start j c.loop-j.k c.loop-j.to c.loop-j.s c.loop-j.bnd i.0 low i.2 i.3 i.4 i.8 inside in
+          (omega (arith, i.0), omega arith, rw (z, w.k-is) b, rw (w.to-is, w.k-is) i.3, rw (w.s-is, w.k-is, w.logadd-s.ensures.sum, p) s, size, rw w.bnd-is i.6, powers, rw (w.bnd-is, w.s-is, w.k-is, w.logadd-s.ensures.sum, p) l)
+    ]
 
 pub offset_bounds-bnd-k-2 : goal.offset_bounds-bnd-k-2
 offset_bounds-bnd-k-2 c = omega (arith, c.loop-j.invariant.2.is)

@@ -4,8 +4,8 @@ use Rattle.gain.proofs.factor.Goals as goal
 
 pub returns-in-Dynrng : goal.returns-in-Dynrng
 unfolding factor_of
-returns-in-Dynrng c = rw c.enum_told-1.given.1 c.dynrng_factor.ensures
+returns-in-Dynrng c = rw c.in-Dynrng.is c.dynrng_factor.ensures
 
 pub returns-in-Compr : goal.returns-in-Compr
 unfolding factor_of
-returns-in-Compr c = rw c.enum_told-in-Compr-1.given.1 c.compr_factor.ensures
+returns-in-Compr c = rw c.in-Compr.is c.compr_factor.ensures

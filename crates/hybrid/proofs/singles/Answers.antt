@@ -9,7 +9,7 @@ pub returns-in_default : goal.returns-in_default
 returns-in_default c = let so = c.loop-i.invariant in record { gains = so.gains; tells = singled-past _ _ _ _ _ _ _ _ so c.loop-i-test.true _ c.raw.ensures c.in_default.is; stored = so.holds }
 
 pub loop-i-preserved : goal.loop-i-preserved
-loop-i-preserved c = singled-on _ _ _ _ _ _ _ _ c.loop-i.invariant c.loop-i-test.true _ c.raw.ensures _ _ c.v-1.given.1 c.requires.0 _ c.single.ensures
+loop-i-preserved c = singled-on _ _ _ _ _ _ _ _ c.loop-i.invariant c.loop-i-test.true _ c.raw.ensures _ _ c.in-Found.is c.requires.0 _ c.single.ensures
 
 pub returns : goal.returns
 returns c = let so = c.loop-i.invariant in record { gains = so.gains; tells = singled-end _ _ _ _ _ _ _ _ so c.loop-i-test.false; stored = so.holds }

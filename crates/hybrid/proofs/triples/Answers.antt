@@ -9,10 +9,10 @@ pub returns-in_default : goal.returns-in_default
 returns-in_default c = let so = c.loop-i.invariant in record { gains = so.gains; tells = tripled-past _ _ _ _ _ _ _ so c.loop-i-test.true _ c.raw.ensures c.in_default.is; stored = so.holds }
 
 pub returns-then-v-gt26 : goal.returns-then-v-gt26
-returns-then-v-gt26 c = let so = c.loop-i.invariant in record { gains = so.gains; tells = tripled-high _ _ _ _ _ _ _ so c.loop-i-test.true _ c.raw.ensures _ _ c.v-1.given.1 c.if-v-gt26.true; stored = so.holds }
+returns-then-v-gt26 c = let so = c.loop-i.invariant in record { gains = so.gains; tells = tripled-high _ _ _ _ _ _ _ so c.loop-i-test.true _ c.raw.ensures _ _ c.in-Found.is c.if-v-gt26.true; stored = so.holds }
 
 pub loop-i-preserved : goal.loop-i-preserved
-loop-i-preserved c = tripled-on _ _ _ _ _ _ _ c.loop-i.invariant c.loop-i-test.true _ c.raw.ensures _ _ c.v-1.given.1 c.if-v-gt26.false c.requires.0 _ _ _ c.third.ensures c.third-in-loop-i.ensures c.third-in-loop-i-2.ensures
+loop-i-preserved c = tripled-on _ _ _ _ _ _ _ c.loop-i.invariant c.loop-i-test.true _ c.raw.ensures _ _ c.in-Found.is c.if-v-gt26.false c.requires.0 _ _ _ c.third.ensures c.third-in-loop-i.ensures c.third-in-loop-i-2.ensures
 
 pub returns : goal.returns
 returns c = let so = c.loop-i.invariant in record { gains = so.gains; tells = tripled-end _ _ _ _ _ _ _ so c.loop-i-test.false; stored = so.holds }

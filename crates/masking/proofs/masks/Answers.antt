@@ -7,7 +7,7 @@ use Rattle.masking.proofs.masks.Goals as goal
 pub excite-requires : goal.excite-requires
 excite-requires c =
     let p = c.requires.hth_value in
-    ((p.1, p.2, p.3, ap length c.requires.leaking.3), (p.4, c.requires.leaking.4, c.requires.leaking.0))
+    record { first_le_last = (p.1, p.2, p.3, ap length c.requires.leaking.3); by_index = (p.4, c.requires.leaking.4, c.requires.leaking.0) }
 
 pub mask_bands-requires : goal.mask_bands-requires
 mask_bands-requires c =

@@ -110,4 +110,4 @@ returns-in-69 c = ap role_of (sym c.in-69.is)
 
 pub returns-in_default : goal.returns-in_default
 unfolding roled arm_names among
-returns-in_default c = plain roled arm_names c.args.name c.in-198.rest tt
+returns-in_default c = plain roled arm_names c.args.name c.in_default.in_default-own.rest tt

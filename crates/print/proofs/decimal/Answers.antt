@@ -7,4 +7,4 @@ use Rattle.print.proofs.decimal.Goals as goal
 pub returns : goal.returns
 returns c =
     let told = c.decimal-k.ensures in
-    meant (library _ c.args.n c.decimal-k.result (omega arith) told.1.0 told.1.1) c.put.ensures
+    meant (library _ c.args.n c.decimal-k.result (omega arith) told.len told.digits) c.put.ensures

@@ -14,6 +14,6 @@ pub returns : goal.returns
 returns c =
     let told = c.decimal-k.ensures in
     let k = c.decimal-k.result in
-    let d = library _ c.args.n k (omega arith) told.1.0 told.1.1 in
+    let d = library _ c.args.n k (omega arith) told.len told.digits in
     let l : length (decimal_of c.args.n) ≡ k = ap length (sym d) ∙ length-take-le k _ (omega arith) in
     meant {a = replicate c.difference.result 32 ++ decimal_of c.args.n} (ap (λ m. replicate m 32 ++ decimal_of c.args.n) (c.difference.ensures ∙ ap (λ m. c.args.width - m) (sym l))) (c.blanks-after.ensures then meant d c.put.ensures)

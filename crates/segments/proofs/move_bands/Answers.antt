@@ -1,6 +1,6 @@
 use native.Mathlib.Omega.{arith}
 use native.Mathlib.Nat.{le_refl}
-use Prim.Native.Nat.{◌≤◌, ◌+◌, ◌-◌}
+use Prim.Native.Nat.{◌≤◌, ◌+◌}
 use lib.ListN.{length-set, get_or}
 use Rattle.alloc.proofs.Lists.{written_none, written-more, written-end, each_set}
 use borrow.Author.Rules.{rules}

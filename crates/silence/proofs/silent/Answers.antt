@@ -1,6 +1,5 @@
 use native.Mathlib.Omega.{arith}
 use mathlib.Core.Path.{refl}
-use Prim.Native.Nat.{◌-◌}
 use Rattle.silence.specs.Silence.{silent_by}
 use Rattle.silence.proofs.Laws.{silent-on, silent-end}
 use Rattle.silence.proofs.silent.Goals as goal

@@ -1,5 +1,4 @@
 use mathlib.Core.Path.{sym, ◌∙◌}
-use borrow.Author.Tests.{not-true, not-false}
 use Rattle.slots.specs.Slots.{requested_of}
 use Rattle.slots.proofs.requested.Goals as goal
 

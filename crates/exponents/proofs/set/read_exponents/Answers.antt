@@ -1,7 +1,8 @@
+use Rattle.std.proofs.Common.{rules}
 use native.Mathlib.Omega.{arith}
 use mathlib.Core.Path.{ap, sym, ◌∙◌}
-use Prim.Native.Nat.{◌+◌, ◌*◌}
-use lib.ListN.{length-set}
+use Prim.Native.Nat.{◌+◌, ◌*◌, ◌<◌}
+use lib.ListN.{length, length-set}
 use borrow.Author.Tests.{ltb-true, ltb-false}
 use mir.Facts.{to_z-of_z}
 use mir.Val.{to_z, of_z}
@@ -81,19 +82,19 @@ pub bounds-indexes-n : goal.bounds-indexes-n
 bounds-indexes-n c = (inside c.loop-left.invariant.fills c.loop-left.n c.if-most-n.false).indexes
 
 pub offset_bounds-firsts-n : goal.offset_bounds-firsts-n
-offset_bounds-firsts-n c = omega (arith, (inside c.loop-left.invariant.fills c.loop-left.n c.if-most-n.false).firsts, c.loop-left.invariant.same.firsts, c.well-formed.1.1.1.1.0)
+offset_bounds-firsts-n c = let h : c.loop-left.n < length c.args.firsts.now = omega (arith, (inside c.loop-left.invariant.fills c.loop-left.n c.if-most-n.false).firsts, c.loop-left.invariant.same.firsts) in search rules
 
 pub bounds-firsts-n : goal.bounds-firsts-n
 bounds-firsts-n c = (inside c.loop-left.invariant.fills c.loop-left.n c.if-most-n.false).firsts
 
 pub offset_bounds-widths-n : goal.offset_bounds-widths-n
-offset_bounds-widths-n c = omega (arith, (inside c.loop-left.invariant.fills c.loop-left.n c.if-most-n.false).widths, c.loop-left.invariant.same.widths, c.well-formed.1.1.1.1.1.0)
+offset_bounds-widths-n c = let h : c.loop-left.n < length c.args.widths.now = omega (arith, (inside c.loop-left.invariant.fills c.loop-left.n c.if-most-n.false).widths, c.loop-left.invariant.same.widths) in search rules
 
 pub bounds-widths-n : goal.bounds-widths-n
 bounds-widths-n c = (inside c.loop-left.invariant.fills c.loop-left.n c.if-most-n.false).widths
 
 pub offset_bounds-values-n : goal.offset_bounds-values-n
-offset_bounds-values-n c = omega (arith, (inside c.loop-left.invariant.fills c.loop-left.n c.if-most-n.false).values, c.loop-left.invariant.same.values, c.well-formed.1.1.1.1.1.1.0)
+offset_bounds-values-n c = let h : c.loop-left.n < length c.args.values.now = omega (arith, (inside c.loop-left.invariant.fills c.loop-left.n c.if-most-n.false).values, c.loop-left.invariant.same.values) in search rules
 
 pub bounds-values-n : goal.bounds-values-n
 bounds-values-n c = (inside c.loop-left.invariant.fills c.loop-left.n c.if-most-n.false).values
@@ -123,16 +124,16 @@ pub shape_of-values-in-Refused : goal.shape_of-values-in-Refused
 shape_of-values-in-Refused c = length-set c.loop-left.values c.loop-left.n c.bits_at-v.result ∙ c.loop-left.invariant.same.values
 
 pub returns-in-Refused : goal.returns-in-Refused
-returns-in-Refused c = set-read _ _ _ _ _ _ _ (to_z-of_z c.ranges.block) (to_z-of_z c.ranges.index) _ _ _ _ _ _ _ _ _ c.requires.held c.requires.small c.groups-left.ensures c.first_of-bin.ensures c.start_of-prev.ensures c.begin.ensures c.loop-left.invariant.laid (standing-refused c.loop-left.invariant c.loop-left-test.true (ltb-false c.args.limit.0 (c.loop-left.p.0 + 7) (sym c.past.ensures.0 ∙ c.if-past.false)) c.if-most-n.false _ c.bits_at-v.ensures c.decode-g.result c.decode-g.ensures _ c.g-1.given.1 c.halted-in-Refused.result c.halted-in-Refused.ensures)
+returns-in-Refused c = set-read _ _ _ _ _ _ _ (to_z-of_z c.ranges.block) (to_z-of_z c.ranges.index) _ _ _ _ _ _ _ _ _ c.requires.held c.requires.small c.groups-left.ensures c.first_of-bin.ensures c.start_of-prev.ensures c.begin.ensures c.loop-left.invariant.laid (standing-refused c.loop-left.invariant c.loop-left-test.true (ltb-false c.args.limit.0 (c.loop-left.p.0 + 7) (sym c.past.ensures.0 ∙ c.if-past.false)) c.if-most-n.false _ c.bits_at-v.ensures c.decode-g.result c.decode-g.ensures _ c.in-Refused.is c.halted-in-Refused.result c.halted-in-Refused.ensures)
 
 pub overflow_cast-a : goal.overflow_cast-a
-overflow_cast-a c = omega (arith, (decode-low _ _ _ _ _ (sym c.decode-g.ensures ∙ c.g-in-Moved-1.given.1)).first)
+overflow_cast-a c = omega (arith, (decode-low _ _ _ _ _ (sym c.decode-g.ensures ∙ c.in-Moved.is)).first)
 
 pub overflow_cast-b : goal.overflow_cast-b
-overflow_cast-b c = omega (arith, (decode-low _ _ _ _ _ (sym c.decode-g.ensures ∙ c.g-in-Moved-1.given.1)).second)
+overflow_cast-b c = omega (arith, (decode-low _ _ _ _ _ (sym c.decode-g.ensures ∙ c.in-Moved.is)).second)
 
 pub overflow_cast-c : goal.overflow_cast-c
-overflow_cast-c c = omega (arith, (decode-low _ _ _ _ _ (sym c.decode-g.ensures ∙ c.g-in-Moved-1.given.1)).third)
+overflow_cast-c c = omega (arith, (decode-low _ _ _ _ _ (sym c.decode-g.ensures ∙ c.in-Moved.is)).third)
 
 pub lay-requires : goal.lay-requires
 lay-requires c = (c.loop-left.invariant.held.size, omega (arith, c.loop-left.invariant.low))
@@ -147,7 +148,7 @@ pub loop-left-smaller : goal.loop-left-smaller
 loop-left-smaller c = omega (arith, c.loop-left-test.true)
 
 pub loop-left-preserved : goal.loop-left-preserved
-loop-left-preserved c = standing-moved c.loop-left.invariant c.loop-left-test.true (ltb-false c.args.limit.0 (c.loop-left.p.0 + 7) (sym c.past.ensures.0 ∙ c.if-past.false)) c.if-most-n.false _ c.bits_at-v.ensures c.decode-g.result c.decode-g.ensures _ _ _ c.g-in-Moved-1.given.1 _ c.lay.ensures (omega (arith, c.group_size-step.ensures.0, c.group_size-step.ensures.2)) _ (ap (λ k. 3 * k) c.group_size-step.ensures.0)
+loop-left-preserved c = standing-moved c.loop-left.invariant c.loop-left-test.true (ltb-false c.args.limit.0 (c.loop-left.p.0 + 7) (sym c.past.ensures.0 ∙ c.if-past.false)) c.if-most-n.false _ c.bits_at-v.ensures c.decode-g.result c.decode-g.ensures _ _ _ c.in-Moved.is _ c.lay.ensures (omega (arith, c.group_size-step.ensures.0, c.group_size-step.ensures.2)) _ (ap (λ k. 3 * k) c.group_size-step.ensures.0)
 
 pub shape_of-names : goal.shape_of-names
 shape_of-names c = c.loop-left.invariant.same.names
