@@ -37,6 +37,7 @@ pub grows-trans : (es fs gs : List Entry) → Grows es fs → Grows fs gs → Gr
 grows-trans es fs gs f g = record { has = λ n h. g.has n (f.has n h); keeps = λ e h. g.keeps e (f.keeps e h) }
 
 has_left : (n : ℕ) (es fs : List Entry) → Has n es → Has n (es ++ fs)
+has_left n [] fs x = elim x [ ]
 has_left n (e ∷ es) fs (inl h) = inl h
 has_left n (e ∷ es) fs (inr h) = inr (has_left n es fs h)
 
@@ -45,6 +46,7 @@ has_last [] e fs = inl refl
 has_last (x ∷ es) e fs = inr (has_last es e fs)
 
 member-left : (e : Entry) (es fs : List Entry) → Among e es → Among e (es ++ fs)
+member-left e [] fs x = elim x [ ]
 member-left e (x ∷ es) fs (inl h) = inl h
 member-left e (x ∷ es) fs (inr h) = inr (member-left e es fs h)
 

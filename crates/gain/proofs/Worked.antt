@@ -1,8 +1,7 @@
 -- The worked examples, in one theorem: the f64 of each row's word is the row's fraction, exactly. A new row asks for no new proof.
 -- Assumes nothing.
-use Rattle.std.proofs.Common.{Bool, true, false, ◌&&◌, T, List, [], ◌∷◌}
+use Rattle.std.proofs.Common.{Bool, true, ◌&&◌, T, List, [], ◌∷◌}
 use lib.Ieee.{Float, round}
-use lib.Ieee.Exact.{HasValue}
 use lib.Ieee.Fits.{and_l, and_r}
 use Rattle.gain.specs.Factor.{factor_of, dynrng_factor, compr_factor, to_f64}
 use Rattle.gain.specs.Examples.{Row, rows, Each}

@@ -1,5 +1,5 @@
 -- The worked examples: kind, word, and the factor as a fraction. Proved in proofs/Worked.antt.
-use Rattle.std.specs.Prelude.{◌≡◌, ℕ, false, List, [], ◌∷◌}
+use Rattle.std.specs.Prelude.{ℕ, false, List, [], ◌∷◌}
 use Rattle.gain.specs.declared.Kind.{Kind}
 use Rattle.gain.specs.declared.Kind.TheVariants.{Dynrng, Compr}
 use Rattle.std.specs.Float.Ieee.Exact.{HasValue}

@@ -1,4 +1,3 @@
-use Prim.Native.Nat.{◌-◌}
 use Rattle.crc.proofs.Remainders.{none, one_more, two-more, all}
 use Rattle.crc.proofs.pass.Goals as goal
 

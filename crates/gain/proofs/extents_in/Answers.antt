@@ -1,4 +1,4 @@
-use Rattle.std.proofs.Common.{ℕ, ◌+◌, ◌-◌, get_or, sym, ap, ◌∙◌, subst, arith}
+use Rattle.std.proofs.Common.{ℕ, ◌+◌, get_or, sym, ap, ◌∙◌, subst, arith}
 use Rattle.gain.specs.Parts.{noted}
 use Rattle.gain.proofs.Named.{AllGoing, all-begin, all_go, all-ended, passed}
 use Rattle.gain.proofs.extents_in.Goals as goal

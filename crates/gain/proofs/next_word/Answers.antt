@@ -1,4 +1,4 @@
-use Rattle.std.proofs.Common.{◌-◌, sym, ◌∙◌, arith}
+use Rattle.std.proofs.Common.{sym, ◌∙◌, arith}
 use Rattle.gain.proofs.Named.{none-begins, none_more}
 use Rattle.gain.proofs.next_word.Goals as goal
 

@@ -1,7 +1,6 @@
 use lib.ListN.{length-set}
 use native.Mathlib.Omega.{arith}
 use mathlib.Core.Path.{◌≡◌, refl}
-use Prim.Native.Nat.{◌-◌}
 use Rattle.alloc.proofs.Lists.{written_none, written-more}
 use borrow.Author.Rules.{rules}
 use Rattle.pointers.proofs.clear.Goals as goal

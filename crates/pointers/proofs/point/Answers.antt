@@ -1,6 +1,5 @@
 use mathlib.Core.Path.{◌≡◌}
 use native.Mathlib.Omega.{arith}
-use Prim.Native.Nat.{◌-◌}
 use lib.ListN.{length-set}
 use Rattle.alloc.specs.Levels.{point_l}
 use Rattle.pointers.proofs.Pointing.{pointed-none, pointed-more, pointed-most}

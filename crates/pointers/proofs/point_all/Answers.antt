@@ -26,32 +26,23 @@ band-past start end most h = by (dec_lt start 28)
 pub point_singles-a-requires : goal.point_singles-a-requires
 point_singles-a-requires c =
     let p = c.requires in
-    let e = p.powers.0.0 in
+    let e = p.powers.0 in
     let s = c.sooner-single.ensures in
-    let m = c.later-mid.ensures in (
-      (omega arith, omega arith, p.ends_value.3, e, p.powers.0.1),
-      p.powers.1,
-    )
+    let m = c.later-mid.ensures in record { from_le_to = (omega arith, omega arith, p.ends_value.3, e, p.powers.1); by_index = p.by_index }
 
 pub point_bands-b-requires : goal.point_bands-b-requires
 point_bands-b-requires c =
     let a = c.args in
     let p = c.requires in
-    let e = p.powers.0.0 in
+    let e = p.powers.0 in
     let s = c.sooner-single.ensures in
     let m = c.later-mid.ensures in
-    let k = c.later.ensures in (
-      (p.ends_value.0, omega (arith, p.ends_value.1), p.ends_value.2, p.ends_value.3, λ h. rw (k, m, s, p.ends_value.4) (band-past a.start a.end p.ends_value.2 (rw (m, s) at h))),
-      (
-        (e, c.point_singles-a.ensures.written.size ∙ p.powers.0.1),
-        p.powers.1,
-      ),
-    )
+    let k = c.later.ensures in record { ends_value = (p.ends_value.0, omega (arith, p.ends_value.1), p.ends_value.2, p.ends_value.3, λ h. rw (k, m, s, p.ends_value.4) (band-past a.start a.end p.ends_value.2 (rw (m, s) at h))); powers = (e, c.point_singles-a.ensures.written.size ∙ p.powers.1); by_index = p.by_index }
 
 pub overflow_add-result : goal.overflow_add-result
 overflow_add-result c =
     let a = c.args in
-    let s = c.requires.powers.1.1 in
+    let s = c.requires.by_index.1 in
     let m = c.later-mid.ensures in
     let n = c.sooner-single.ensures in
     let f = pointer_l a.points.now a.base a.powers.now a.place.now in

@@ -1,7 +1,7 @@
 use mathlib.Core.Path.{◌≡◌, ap, ◌∙◌}
 use native.Mathlib.Omega.{arith}
 use lib.ListN.{get_or}
-use Prim.Native.Nat.{◌+◌, ◌-◌, min}
+use Prim.Native.Nat.{◌+◌, min}
 use Rattle.tables.specs.Bands.{end_of}
 use Rattle.tables.proofs.Bins.{own-band, next-band, same-band}
 use Rattle.alloc.specs.Levels.{point_l, pointer_l}
@@ -12,7 +12,7 @@ pub loop-j-init : goal.loop-j-init
 loop-j-init c =
     let a = c.args in
     let p = c.requires in
-    (omega arith, p.ends_value.1, λ h. rw (p.ends_value.4 h) (own-band a.start (omega (arith, p.ends_value.2))), p.powers.0.1, pointed-none a.shares.now _ a.start a.out.now)
+    (omega arith, p.ends_value.1, λ h. rw (p.ends_value.4 h) (own-band a.start (omega (arith, p.ends_value.2))), p.powers.1, pointed-none a.shares.now _ a.start a.out.now)
 
 pub end_of-requires : goal.end_of-requires
 end_of-requires c =
@@ -30,28 +30,28 @@ bounds-place-k c =
 
 pub overflow_add-p : goal.overflow_add-p
 overflow_add-p c =
-    omega (arith, c.index32.ensures, c.requires.powers.1.0 c.loop-j.k, c.requires.ends_value.3)
+    omega (arith, c.index32.ensures, c.requires.by_index.0 c.loop-j.k, c.requires.ends_value.3)
 
 pub point-sum-requires : goal.point-sum-requires
 point-sum-requires c =
     let p = c.requires in
-    let e = p.powers.0.0 in
+    let e = p.powers.0 in
     let b = c.loop-j.invariant.2 c.loop-j-test.true in
-    let hi = c.sooner-hi.ensures ∙ ap (min c.args.end) c.end_of.ensures in (
-      (
+    let hi = c.sooner-hi.ensures ∙ ap (min c.args.end) c.end_of.ensures in record {
+      lo_le_hi = (
         omega (arith, b.to, hi),
         omega (arith, hi, p.ends_value.2),
-        omega (arith, c.index32.ensures, p.powers.1.0 c.loop-j.k, p.ends_value.3),
+        omega (arith, c.index32.ensures, p.by_index.0 c.loop-j.k, p.ends_value.3),
         e,
         c.loop-j.invariant.3,
-      ),
-      p.powers.1.1,
-    )
+      );
+      by_index = p.by_index.1;
+    }
 
 pub overflow_add-sum : goal.overflow_add-sum
 overflow_add-sum c =
     let a = c.args in
-    let s = c.requires.powers.1.1 in
+    let s = c.requires.by_index.1 in
     let b = c.loop-j.invariant.2 c.loop-j-test.true in
     let hi = c.sooner-hi.ensures ∙ ap (min a.end) c.end_of.ensures in
     let one = pointed-most a.shares.now _ 281474976710656 a.start c.loop-j.j _ _ _ s c.loop-j.invariant.4 in
