@@ -200,7 +200,7 @@ pub overflow_add-pc-else-kind-lt14 : goal.overflow_add-pc-else-kind-lt14
 overflow_add-pc-else-kind-lt14 t c = omega (arith, stand-end c.requires, c.loop-pc-test.true)
 
 pub each-c-requires : goal.each-c-requires
-each-c-requires t c = (shorter _ _ _ _ c.loop_of-l.result.rows ? c.loop-pc.invariant.past (loop-within _ _ _ _ _ _ _ _ _ _ _ _ _ _ _ _ _ c.loop-pc.invariant c.loop-pc-test.true _ refl c.if-kind-lt4.false c.if-kind-lt8.false c.if-kind-lt14.false c.loop_of-l.result c.loop_of-l.ensures.0 _ c.requires.stands), loop-stand _ _ _ _ _ _ _ _ _ _ _ _ _ _ _ _ _ c.loop-pc.invariant c.loop-pc-test.true _ refl c.if-kind-lt4.false c.if-kind-lt8.false c.if-kind-lt14.false c.loop_of-l.result c.loop_of-l.ensures.0 _ _ _ _ c.requires (same-trans c.loop-j.invariant.same c.loop-pc.invariant.same))
+each-c-requires t c = (shorter _ _ _ _ c.loop_of-l.result.rows c.decreases c.loop-pc.invariant.past (loop-within _ _ _ _ _ _ _ _ _ _ _ _ _ _ _ _ _ c.loop-pc.invariant c.loop-pc-test.true _ refl c.if-kind-lt4.false c.if-kind-lt8.false c.if-kind-lt14.false c.loop_of-l.result c.loop_of-l.ensures.0 _ c.requires.stands), loop-stand _ _ _ _ _ _ _ _ _ _ _ _ _ _ _ _ _ c.loop-pc.invariant c.loop-pc-test.true _ refl c.if-kind-lt4.false c.if-kind-lt8.false c.if-kind-lt14.false c.loop_of-l.result c.loop_of-l.ensures.0 _ _ _ _ c.requires (same-trans c.loop-j.invariant.same c.loop-pc.invariant.same))
 
 pub shape_of-names-then-c-3 : goal.shape_of-names-then-c-3
 shape_of-names-then-c-3 t c = c.each-c.auto.names ∙ c.loop-pc.invariant.same.names ∙ c.loop-j.invariant.same.names
