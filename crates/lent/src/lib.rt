@@ -1,7 +1,6 @@
 // A reader that holds the caller's slice and its bit place, and offers the reads of crate `syntax`: `raw`, `read`, `span`
-// and `close`. The borrow checker covers no function over such a struct, so each is thin and proved by hand: it takes the
-// struct apart and calls the covered function of the same name with `_at`, which says the same of a slice and a place.
-// `element` makes a reader of plain parameters and reads: its callers need no proof by hand.
+// and `close`. Each is thin: it takes the struct apart and calls the function of the same name with `_at`, which says the
+// same of a slice and a place. `element` makes a reader of plain parameters and reads.
 #![tactic(auto)]
 
 ghost use Rattle.std.specs.Prelude.{◌≡◌, true, ◌*◌, ◌≤◌, length};

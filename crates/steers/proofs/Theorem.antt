@@ -23,7 +23,7 @@ use Rattle.reading.proofs.Tails.{finish-ends}
 use Rattle.steers.specs.Blind.{Some, Other, BlindTo}
 use Rattle.steers.specs.Steering.{Rewritten, RewrittenFrame, renewed, Named, SteersNothing}
 use Rattle.steers.proofs.Blinds.{blind-header, blind-tail}
-use Rattle.steers.proofs.Follows.{Spared, reread-all, Follows, follows_test, follows-after, run-follows}
+use Rattle.steers.proofs.Follows.{Spared, reread-all, Follows, follows-after, run-follows}
 use Rattle.steers.proofs.Chosen.{kept_of, kept-spared, reread-kept, cut-renewed}
 
 ruleset tests = (arith, leb→le, nleb→lt)
@@ -165,6 +165,7 @@ module _ (N : ℕ → Bool) (x y : List ℕ) where
 
   -- the bits of a record with another name are the same in both
   other-same : (es : List Entry) (f m : ℕ) → Some (Other N f m) es → Spared N x y es → SameBits x y f m
+  other-same [] f m x5 s i a b = elim x5 [ ]
   other-same (e ∷ es) f m (inl h) s i a b = s.0 h.name i (omega (arith, h.from)) (omega (arith, h.upto))
   other-same (e ∷ es) f m (inr h) s i a b = other-same es f m h s.1 i a b
 

@@ -17,31 +17,27 @@ allocate-requires c =
     let codes = c.args.codes.now in
     let p = c.requires in
     let r = p.end_bound.2 in
-    let l = leak-low (eqb (get_or codes 11 0) 1) (get_or codes 9 0) (get_or codes 10 0) r.cplfleak r.cplsleak in (
-      record {
+    let l = leak-low (eqb (get_or codes 11 0) 1) (get_or codes 9 0) (get_or codes 10 0) r.cplfleak r.cplsleak in record {
+      lent = record {
         log = c.log_add-latab.ensures;
         bins = c.masktab-masktab.ensures;
         ends = c.band_end-ends.ensures;
         heard = c.hearing-hth.ensures;
         points = c.pointers-points.ensures;
-      },
-      (
-        rw c.channel_of-c.ensures p.exponents,
-        (
-          (
-            record {
-              within = rw c.channel_of-c.ensures p.end_bound.0;
-              fgain = rw c.channel_of-c.ensures (fastgain-high (get_or codes 6 0));
-              fast = rw c.leak_by-l.ensures l.0;
-              slow = rw c.leak_by-l.ensures l.1;
-              segs = rw c.deltas_of-d.ensures r.segs;
-            },
-            rw c.params_by-p.ensures (codes-tuned _ _ _ _ _ _ r.fscod),
-          ),
-          λ k. let z = zeros 256 k in omega arith,
-        ),
-      ),
-    )
+      };
+      exponents = rw c.channel_of-c.ensures p.exponents;
+      channelled = (
+        record {
+          within = rw c.channel_of-c.ensures p.end_bound.0;
+          fgain = rw c.channel_of-c.ensures (fastgain-high (get_or codes 6 0));
+          fast = rw c.leak_by-l.ensures l.0;
+          slow = rw c.leak_by-l.ensures l.1;
+          segs = rw c.deltas_of-d.ensures r.segs;
+        },
+        rw c.params_by-p.ensures (codes-tuned _ _ _ _ _ _ r.fscod),
+      );
+      by_index = λ k. let z = zeros 256 k in omega arith;
+    }
 
 pub returns : goal.returns
 returns c =

@@ -1,3 +1,4 @@
+use native.Mathlib.Omega.{arith}
 use Rattle.derivations.proofs.Ends.{endmants-are}
 use Rattle.derivations.specs.Derivations.{derived}
 use borrow.Author.Tests.{ne_eqb}
@@ -76,4 +77,4 @@ returns-in-17 c = record { is = rw (c.in-17.is, c.aht_read.ensures); right = c.r
 
 pub returns-in_default : goal.returns-in_default
 unfolding derived
-returns-in_default c = record { is = rw (ne_eqb _ _ c.in-1.rest.0.0.0.0.0.0.0.0.0.0.0.0.0.0.0.0.1, ne_eqb _ _ c.in-1.rest.0.0.0.0.0.0.0.0.0.0.0.0.0.0.0.1, ne_eqb _ _ c.in-1.rest.0.0.0.0.0.0.0.0.0.0.0.0.0.0.1, ne_eqb _ _ c.in-1.rest.0.0.0.0.0.0.0.0.0.0.0.0.0.1, ne_eqb _ _ c.in-1.rest.0.0.0.0.0.0.0.0.0.0.0.0.1, ne_eqb _ _ c.in-1.rest.0.0.0.0.0.0.0.0.0.0.0.1, ne_eqb _ _ c.in-1.rest.0.0.0.0.0.0.0.0.0.0.1, ne_eqb _ _ c.in-1.rest.0.0.0.0.0.0.0.0.0.1, ne_eqb _ _ c.in-1.rest.0.0.0.0.0.0.0.0.1, ne_eqb _ _ c.in-1.rest.0.0.0.0.0.0.0.1, ne_eqb _ _ c.in-1.rest.0.0.0.0.0.0.1, ne_eqb _ _ c.in-1.rest.0.0.0.0.0.1, ne_eqb _ _ c.in-1.rest.0.0.0.0.1, ne_eqb _ _ c.in-1.rest.0.0.0.1, ne_eqb _ _ c.in-1.rest.0.0.1, ne_eqb _ _ c.in-1.rest.0.1, ne_eqb _ _ c.in-1.rest.1); right = c.requires.1 }
+returns-in_default c = record { is = rw (ne_eqb c.args.k 1 (λ e. omega arith), ne_eqb c.args.k 2 (λ e. omega arith), ne_eqb c.args.k 3 (λ e. omega arith), ne_eqb c.args.k 4 (λ e. omega arith), ne_eqb c.args.k 5 (λ e. omega arith), ne_eqb c.args.k 6 (λ e. omega arith), ne_eqb c.args.k 7 (λ e. omega arith), ne_eqb c.args.k 8 (λ e. omega arith), ne_eqb c.args.k 9 (λ e. omega arith), ne_eqb c.args.k 10 (λ e. omega arith), ne_eqb c.args.k 11 (λ e. omega arith), ne_eqb c.args.k 12 (λ e. omega arith), ne_eqb c.args.k 13 (λ e. omega arith), ne_eqb c.args.k 14 (λ e. omega arith), ne_eqb c.args.k 15 (λ e. omega arith), ne_eqb c.args.k 16 (λ e. omega arith), ne_eqb c.args.k 17 (λ e. omega arith)); right = c.requires.1 }
