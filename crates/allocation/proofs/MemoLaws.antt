@@ -1,6 +1,6 @@
 -- Laws of what is kept of an allocation: words and their bytes; a slot is found again, made stale, noted. Assumes nothing.
 use mathlib.Core.Path.{◌≡◌, refl, ap, sym, subst, ◌∙◌}
-use mathlib.Core.Bool.{Bool, true, false, ◌&&◌, cond}
+use mathlib.Core.Bool.{Bool, true, false, cond}
 use mathlib.Core.List.{List, [], ◌∷◌, ◌++◌}
 use mathlib.Core.Logic.{by_cases}
 use Prim.Native.Nat.{ℕ, zero, suc, ◌+◌, ◌-◌, ◌*◌, ◌/◌, ◌%◌, ◌≤◌, ◌<◌, min}
@@ -36,7 +36,6 @@ use Rattle.allocation.specs.declared.Codes.{Codes}
 use Rattle.allocation.specs.declared.AllocState.{AllocState}
 use Rattle.allocation.specs.declared.Segments.{Segments}
 use Rattle.kept.specs.declared.Source.{Source}
-use Rattle.slots.proofs.Tests.{both}
 use Rattle.allocation.proofs.StateLaws.{allocation-alike, part-width, part_length, pointers-are, pointed-length, pointed-at, pointed-apart, pointed-there, slot-asked, slot-not-asked}
 
 -- eight numbers

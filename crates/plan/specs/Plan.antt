@@ -1,5 +1,5 @@
 -- The mantissas of a block, slot by slot (A/52 clauses 5.3.3 and E2.2.4, TS 102 366 clauses 4.3.3 and E.1.2.4).
-use Rattle.std.specs.Prelude.{Bool, true, false, ◌&&◌, ◌||◌, not, cond, List, ◌∷◌, ℕ, zero, suc, ◌+◌, ◌-◌, min, eqb, ltb, get_or, set, replicate}
+use Rattle.std.specs.Prelude.{Bool, true, false, ◌&&◌, ◌||◌, not, cond, List, ◌∷◌, ℕ, zero, suc, ◌+◌, ◌-◌, min, get_or, set, replicate}
 use Rattle.reading.specs.Tree.{Skim, stop, ◌>>-◌}
 use Rattle.slots.specs.Slots.{CPL, LFE, range_of, read_of}
 use Rattle.skim.specs.Counted.{counting}

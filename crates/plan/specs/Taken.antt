@@ -1,7 +1,7 @@
 -- The outcomes that the walk through a block's mantissas tells.
-use Rattle.std.specs.Prelude.{◌≡◌, Bool, cond, List, [], ◌∷◌, ℕ, eqb, replicate}
+use Rattle.std.specs.Prelude.{◌≡◌, cond, List, [], ◌∷◌, ℕ, eqb, replicate}
 use Rattle.reading.specs.Tree.{Skim}
-use Rattle.reading.specs.Run.{Result, accepted, refused, Outcome, out, skim}
+use Rattle.reading.specs.Run.{refused, Outcome, out, skim}
 use Rattle.skim.specs.Outcomes.{outcome}
 use Rattle.plan.specs.Plan.{Along, along}
 use Rattle.plan.specs.declared.Taking.{Taking}

@@ -1,6 +1,4 @@
 use native.Mathlib.Omega.{arith}
-use Prim.Native.Nat.{◌-◌}
-use borrow.Author.Tests.{not-false}
 use Rattle.allocation.proofs.MemoLaws.{passes_none, passes_on}
 use Rattle.allocation.proofs.first_stale.Goals as goal
 

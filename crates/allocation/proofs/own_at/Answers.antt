@@ -1,5 +1,4 @@
 use mathlib.Core.Path.{◌∙◌}
-use borrow.Author.Tests.{not-true, not-false}
 use Rattle.allocation.proofs.MemoLaws.{owned, not-owned}
 use Rattle.allocation.proofs.own_at.Goals as goal
 

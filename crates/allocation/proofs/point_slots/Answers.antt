@@ -1,6 +1,5 @@
 use native.Mathlib.Omega.{arith}
 use mathlib.Core.Path.{refl, sym, ◌∙◌}
-use Prim.Native.Nat.{◌-◌}
 use Rattle.allocation.proofs.MemoLaws.{said-some, said-kept, points-next, points-done}
 use Rattle.allocation.proofs.point_slots.Goals as goal
 use Rattle.allocation.proofs.point_slots.Goals.{then-not-kept, else-not-kept}
@@ -36,8 +35,9 @@ loop-slot-preserved c =
     let s = c.source_of-s.ensures in
     let k = c.kept.ensures in
     elim c.if-not-kept.branch [
-      then-not-kept w ↦ (omega arith, inv.1 ∙ points-next _ _ _ _ _ _ _ _ h _ (said-some _ _ _ _ _ _ _ _ _ s (k.asked w.if-not-kept.true) ∙ sym (w.baps-is ∙ w.renew.ensures.0)), rw (w.baps-is, w.memo-is) w.renew.ensures.1)
-      | else-not-kept w ↦ (omega arith, inv.1 ∙ points-next _ _ _ _ _ _ _ _ h _ (said-kept _ _ _ _ _ _ _ _ _ s h _ _ k w.if-not-kept.false inv.2 ∙ sym w.baps-is), rw (w.baps-is, w.memo-is) inv.2) ]
+      | then-not-kept w ↦ (omega arith, inv.1 ∙ points-next _ _ _ _ _ _ _ _ h _ (said-some _ _ _ _ _ _ _ _ _ s (k.asked w.if-not-kept.true) ∙ sym (w.baps-is ∙ w.renew.ensures.0)), rw (w.baps-is, w.memo-is) w.renew.ensures.1)
+      | else-not-kept w ↦ (omega arith, inv.1 ∙ points-next _ _ _ _ _ _ _ _ h _ (said-kept _ _ _ _ _ _ _ _ _ s h _ _ k w.if-not-kept.false inv.2 ∙ sym w.baps-is), rw (w.baps-is, w.memo-is) inv.2)
+    ]
 
 pub returns : goal.returns
 returns c = (sym (c.loop-slot.invariant.1 ∙ points-done _ _ _ _ _ _ _ _ c.loop-slot-test.false), c.loop-slot.invariant.2)

@@ -1,4 +1,3 @@
-use mathlib.Core.Bool.{false}
 use Rattle.plan.proofs.VisitLaws.{slots-on, slots_end, slots-all, ended_is}
 use native.Mathlib.Omega.{arith}
 use mathlib.Core.Path.{◌≡◌, sym, ◌∙◌}

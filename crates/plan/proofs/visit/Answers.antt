@@ -1,5 +1,4 @@
 use native.Mathlib.Omega.{arith}
-use borrow.Author.Tests.{not-true, not-false}
 use Rattle.plan.proofs.VisitLaws.{visit-refused, visit-unwanted, visit-read, visit-aht, visit-conventional}
 use Rattle.plan.proofs.visit.Goals as goal
 
