@@ -149,6 +149,7 @@ parts s st = six (leb 6 (length s))
     six false d = absurd (let z : ◌≡◌ {A = ℕ} 0 1 = cc in let o : ⊥ = omega arith in o)
 
 among-at : (e : Entry) (es : List Entry) → Among e es → (i : ℕ) × (get_elem? (map (λ (e : Entry). e.field) es) i ≡ some e.field)
+among-at e [] x = elim x [ ]
 among-at e (x ∷ es) (inl h) = (0, ap (λ (e : Entry). some e.field) h)
 among-at e (x ∷ es) (inr h) = let r = among-at e es h in (suc r.0, r.1)
 

@@ -4,10 +4,8 @@ use Prim.Native.Nat.{ℕ, ◌+◌, ◌-◌, ◌≤◌}
 use native.Mathlib.Omega.{arith}
 use borrow.Author.Tests.{le-leb}
 use Rattle.exponents.specs.Exponents.{next_of, decode_of}
-use Rattle.exponents.specs.declared.Group.{Group}
 use Rattle.exponents.specs.declared.Group.TheVariants.{Refused, Moved}
-use Rattle.exponents.specs.declared.Next.{Next}
-use Rattle.exponents.specs.declared.Next.TheVariants.{Outside, To}
+use Rattle.exponents.specs.declared.Next.TheVariants.{To}
 
 next-is : (prev m e : ℕ) → prev + m ≡ e + 2 → e ≤ 24 → next_of prev m ≡ To e
 unfolding next_of

@@ -1,5 +1,5 @@
 -- Laws of exponents: of putting and spreading them, and the sizes of groups. Assumes nothing.
-use mathlib.Core.Path.{◌≡◌, refl, ap, sym, ◌∙◌}
+use mathlib.Core.Path.{◌≡◌, refl, sym, ◌∙◌}
 use mathlib.Core.Bool.{Bool, true, false, ◌&&◌, cond}
 use mathlib.Core.List.{List}
 use Prim.Native.Nat.{ℕ, zero, suc, ◌+◌, ◌-◌, ◌*◌, ◌/◌, ◌%◌, ◌≤◌, ◌<◌}
@@ -11,8 +11,8 @@ use lib.Seq.{get_or-set_same, get_or-set_other}
 use borrow.Author.Tests.{lt-ltb, le-ltb, eq-eqb, ne_eqb, leb-true, ltb-true}
 use Rattle.slots.specs.Held.{Held}
 use Rattle.slots.proofs.Tests.{both}
-use Rattle.slots.specs.Slots.{CPL, LFE}
-use Rattle.exponents.specs.Exponents.{next_of, on_to, decode_of, groups_of, start_of, put_of, spread_of, laid_of, size_of}
+use Rattle.slots.specs.Slots.{CPL}
+use Rattle.exponents.specs.Exponents.{next_of, on_to, decode_of, start_of, put_of, spread_of, laid_of, size_of}
 use Rattle.exponents.specs.declared.Group.{Group}
 use Rattle.exponents.specs.declared.Group.TheVariants.{Refused, Moved}
 use Rattle.exponents.specs.declared.Next.{Next}

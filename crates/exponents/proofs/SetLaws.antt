@@ -1,18 +1,18 @@
 -- Laws of a set of exponents: what it lays, and its groups one by one as the code reads them. Assumes nothing.
 use mathlib.Core.Path.{◌≡◌, refl, ap, sym, subst, ◌∙◌}
-use mathlib.Core.Bool.{Bool, true, false, ◌&&◌, not, cond}
+use mathlib.Core.Bool.{Bool, true, false, ◌&&◌, cond}
 use mathlib.Core.List.{List, []}
 use Prim.Native.Nat.{ℕ, zero, suc, ◌+◌, ◌-◌, ◌*◌, ◌≤◌, ◌<◌}
 use native.Mathlib.Omega.{arith}
 use lib.Dec.{leb, ltb, eqb}
 use lib.IntN.{ℤ}
-use lib.ListN.{length, get_or, set, length-set}
+use lib.ListN.{get_or, set, length-set}
 use lib.Seq.{get_or-set_other}
 use borrow.Author.Tests.{le-leb, lt-leb, ltb-true}
 use Rattle.bits.specs.Bits.{bits_at}
-use Rattle.reading.specs.Tree.{Part, Tree, done, refuse, read}
-use Rattle.reading.specs.Run.{field_of, Result, accepted, refused, Outcome, out, cons, run, element}
-use Rattle.reading.specs.Room.{Room, room, pushed, Out, got, exec}
+use Rattle.reading.specs.Tree.{Part, Tree}
+use Rattle.reading.specs.Run.{field_of, accepted, refused, Outcome, out, cons, run, element}
+use Rattle.reading.specs.Room.{Room, room, pushed, Out, exec}
 use Rattle.syntax.specs.Rooms.{Fills, Same}
 use Rattle.syntax.specs.Records.{part, outcome, going_at, halted_at}
 use Rattle.syntax.specs.declared.Cursor.{Cursor}

@@ -1,5 +1,5 @@
 -- Exponents out of their groups (A/52 clause 7.1.3, TS 102 366 clause 6.1.3).
-use Rattle.std.specs.Prelude.{Bool, true, false, ◌&&◌, cond, List, ℕ, zero, suc, ◌+◌, ◌-◌, ◌*◌, ◌/◌, ◌%◌, ◌^◌, ◌≤◌, ◌<◌, leb, ltb, eqb, set}
+use Rattle.std.specs.Prelude.{◌&&◌, cond, List, ℕ, zero, suc, ◌+◌, ◌-◌, ◌*◌, ◌/◌, ◌%◌, leb, ltb, eqb, set}
 use Rattle.slots.specs.Slots.{CPL, LFE}
 use Rattle.exponents.specs.declared.Group.{Group}
 use Rattle.exponents.specs.declared.Group.TheVariants.{Refused, Moved}

@@ -1,8 +1,8 @@
 -- Laws of the adaptive hybrid transform, step by step as the code goes. Assumes nothing.
-use mathlib.Core.Path.{◌≡◌, refl, ap, sym, ◌∙◌}
-use mathlib.Core.Bool.{Bool, true, false, ◌&&◌, cond}
+use mathlib.Core.Path.{◌≡◌, refl, sym, ◌∙◌}
+use mathlib.Core.Bool.{Bool, true, false, cond}
 use mathlib.Core.List.{List, [], ◌∷◌, ◌++◌, append_assoc}
-use Prim.Native.Nat.{ℕ, zero, suc, ◌+◌, ◌-◌, ◌*◌, ◌/◌, ◌%◌, ◌^◌, ◌≤◌, ◌<◌}
+use Prim.Native.Nat.{ℕ, suc, ◌+◌, ◌-◌, ◌*◌, ◌/◌, ◌%◌, ◌^◌, ◌≤◌, ◌<◌}
 use native.Mathlib.Omega.{arith}
 use native.Mathlib.Decide.{ℕ_discrete, dec_lt}
 use lib.Dec.{eqb, ltb}
@@ -10,7 +10,7 @@ use lib.ListN.{length, get_or, set, replicate, length-set, length-append, length
 use lib.Seq.{get_or-set_same, get_or-set_other, get_or_at}
 use borrow.Author.Tests.{eq-eqb, ne_eqb, lt-ltb, le-ltb}
 use Rattle.reading.specs.Tree.{Skim, stop, fail, take, ◌>>-◌}
-use Rattle.reading.specs.Run.{Result, accepted, refused, Outcome, out, skim}
+use Rattle.reading.specs.Run.{Outcome, skim}
 use Rattle.bits.specs.declared.BitPlace.{BitPlace}
 use Rattle.skim.specs.declared.Look.{Look}
 use Rattle.skim.specs.declared.Look.TheVariants.{Past, Found}

@@ -1,6 +1,6 @@
 -- The adaptive hybrid transform: gain words, vector indexes and pre-mantissas of a slot, for all blocks of the frame at once
 -- (TS 102 366 clauses E.1.2.4, E.2.4.2 and E.2.4.4; A/52 E2.2.4, E3.4.2 and E3.4.4). Bits inside a span.
-use Rattle.std.specs.Prelude.{Bool, true, false, ◌&&◌, cond, List, [], ◌∷◌, ◌++◌, ℕ, zero, suc, ◌+◌, ◌-◌, ◌*◌, ◌/◌, ◌%◌, ◌^◌, eqb, ltb, get_or}
+use Rattle.std.specs.Prelude.{Bool, ◌&&◌, cond, List, [], ◌∷◌, ◌++◌, ℕ, zero, suc, ◌+◌, ◌-◌, ◌/◌, ◌%◌, ◌^◌, eqb, ltb, get_or}
 use Rattle.tables.specs.Small.{vq_bits, gaq_bits}
 use Rattle.reading.specs.Tree.{Skim, stop, fail, take, ◌>>-◌}
 use Rattle.slots.specs.Slots.{pointer}

@@ -29,6 +29,7 @@ use Rattle.steers.specs.Blind.{Some}
 use Rattle.steers.specs.Closing.{Closes}
 
 some_left : (P : Entry → Type 0) (es fs : List Entry) → Some P es → Some P (es ++ fs)
+some_left P [] fs x = elim x [ ]
 some_left P (e ∷ es) fs (inl h) = inl h
 some_left P (e ∷ es) fs (inr h) = inr (some_left P es fs h)
 

@@ -1,7 +1,7 @@
 -- Names that the pages of Annex E keep nowhere steer nothing; the six loudness words and crc2 are such names. Assumes nothing.
 use mathlib.Core.Path.{◌≡◌, refl, ap, sym, ◌∙◌, subst}
 use mathlib.Core.Bool.{Bool, true, false, not}
-use mathlib.Core.List.{List, ◌∷◌}
+use mathlib.Core.List.{List, [], ◌∷◌}
 use mathlib.Core.Logic.{inl, inr}
 use Prim.Native.Nat.{ℕ}
 use native.Mathlib.Omega.{arith}
@@ -28,6 +28,7 @@ use Rattle.loudness.proofs.Bsid.{Bsid, parse-has}
 use Rattle.loudness.proofs.Widths.{wide, parse-wide}
 
 some-map : {P Q : Entry → Type 0} (es : List Entry) → ((e : Entry) → P e → Q e) → Some P es → Some Q es
+some-map [] f x = elim x [ ]
 some-map (e ∷ es) f (inl h) = inl (f e h)
 some-map (e ∷ es) f (inr h) = inr (some-map es f h)
 

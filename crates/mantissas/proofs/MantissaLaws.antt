@@ -1,13 +1,13 @@
 -- Laws of conventional mantissas: one bin, and the end. Assumes nothing.
-use mathlib.Core.Path.{◌≡◌, refl, ap, sym, ◌∙◌}
-use mathlib.Core.Bool.{Bool, true, false, cond}
+use mathlib.Core.Path.{◌≡◌, ◌∙◌}
+use mathlib.Core.Bool.{true, false}
 use mathlib.Core.List.{List, []}
-use Prim.Native.Nat.{ℕ, zero, suc, ◌+◌, ◌-◌, ◌*◌, ◌≤◌, ◌<◌}
+use Prim.Native.Nat.{ℕ, suc, ◌+◌, ◌-◌, ◌*◌, ◌≤◌, ◌<◌}
 use native.Mathlib.Omega.{arith}
 use lib.Dec.{ltb}
 use lib.ListN.{get_or}
-use Rattle.reading.specs.Tree.{Skim, stop, take}
-use Rattle.reading.specs.Run.{Result, accepted, refused, Outcome, out, skim}
+use Rattle.reading.specs.Tree.{take}
+use Rattle.reading.specs.Run.{accepted, refused, out, skim}
 use Rattle.mantissas.specs.declared.Groups.{Groups}
 use Rattle.slots.specs.Slots.{pointer}
 use Rattle.mantissas.specs.Mantissas.{width_of, counted_of, conventional_of}

@@ -7,7 +7,7 @@ use Prim.Native.Nat.{ℕ, zero, suc, ◌+◌, ◌-◌, ◌*◌, ◌/◌, ◌%◌
 use native.Mathlib.Omega.{arith}
 use native.Mathlib.Decide.{ℕ_discrete, dec_lt}
 use native.Mathlib.Nat.{zero-add, mod-add-mod}
-use lib.Dec.{eqb, ltb}
+use lib.Dec.{eqb}
 use lib.ListN.{get_or}
 use borrow.Author.Tests.{eq-eqb, ne_eqb, le-ltb}
 use Rattle.tables.specs.Small.{bap_bits}
@@ -16,8 +16,7 @@ use Rattle.tables.proofs.Rule.{at_most}
 use Rattle.alloc.specs.Allocation.{tab}
 use Rattle.alloc.specs.Shares.{total}
 use Rattle.alloc.proofs.Lists.{get_d-tab}
-use Rattle.reading.specs.Tree.{Skim, stop, take}
-use Rattle.reading.specs.Run.{Result, accepted, Outcome, out, skim}
+use Rattle.reading.specs.Run.{accepted, out, skim}
 use Rattle.slots.specs.Slots.{pointer}
 use Rattle.mantissas.specs.Mantissas.{opens_of, width_of, counted_of, conventional_of}
 use Rattle.mantissas.specs.Tally.{alone_of, count_of, tally_of, packed, share_of, fields_of, opened_of, turned_of, spent_of, left_of}

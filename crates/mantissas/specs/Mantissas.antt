@@ -1,5 +1,5 @@
 -- Conventional mantissas (A/52 clause 7.3.5, TS 102 366 clause 6.3.5): bits inside a span, not looked at.
-use Rattle.std.specs.Prelude.{Bool, true, false, cond, List, ℕ, zero, suc, ◌+◌, ◌*◌, ◌%◌, eqb, get_or}
+use Rattle.std.specs.Prelude.{cond, List, ℕ, zero, suc, ◌+◌, ◌%◌, eqb, get_or}
 use Rattle.tables.specs.Small.{bap_bits}
 use Rattle.reading.specs.Tree.{Skim, stop, take}
 use Rattle.slots.specs.Slots.{pointer}

@@ -1,5 +1,5 @@
 -- What is derived in a block: of each, the cells that it puts; and 23 where a channel's bandwidth was never sent.
-use Rattle.std.specs.Prelude.{ℕ, zero, suc, ◌+◌, ◌-◌, ◌*◌, min, Bool, true, false, cond, not, ◌&&◌, ◌||◌, List, ltb, eqb}
+use Rattle.std.specs.Prelude.{ℕ, zero, suc, ◌+◌, ◌-◌, ◌*◌, min, Bool, false, cond, not, ◌&&◌, ◌||◌, List, ltb, eqb}
 use Rattle.cells.specs.Cells.{cell_of, put_in}
 use Rattle.sideinfo.specs.Steps.{each_of}
 use Rattle.sideinfo.specs.Frames.{holding}

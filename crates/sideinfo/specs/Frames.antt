@@ -1,5 +1,5 @@
 -- What is derived from bsi and audfrm: of each, the cells that it puts.
-use Rattle.std.specs.Prelude.{ℕ, ◌+◌, ◌-◌, ◌*◌, ◌^◌, Bool, ◌||◌, not, cond, List, ltb, eqb, get_or}
+use Rattle.std.specs.Prelude.{ℕ, ◌+◌, ◌-◌, ◌*◌, ◌^◌, ◌||◌, not, cond, List, ltb, eqb, get_or}
 use Rattle.tables.specs.Small.{nfchans, frmexpstr}
 use Rattle.cells.specs.Cells.{cell_of, put_in}
 use Rattle.sideinfo.specs.Steps.{sum_of, each_of}

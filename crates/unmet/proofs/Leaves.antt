@@ -43,6 +43,7 @@ leaves_unsent rs j a z = outside rs j && (not (eqb j FIRSTCPLLEAK) || leb 1 a)
 
 inside-not : (rs : Ranges) (j : ℕ) → In rs j → outside rs j ≡ true → ⊥
 unfolding outside
+inside-not [] j x e = elim x [ ]
 inside-not (r ∷ rs) j (inl h) e =
     let b : not (leb r.0 j && leb j r.1) ≡ true = (both (not (leb r.0 j && leb j r.1)) (outside rs j) e).0 in
     let c : not (true && true) ≡ true = subst (λ x. not (x && true) ≡ true) (le-leb r.0 j h.0) (subst (λ x. not (leb r.0 j && x) ≡ true) (le-leb j r.1 h.1) b) in

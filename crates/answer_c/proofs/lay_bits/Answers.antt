@@ -14,7 +14,7 @@ pub loop-block-smaller : goal.loop-block-smaller
 loop-block-smaller c = omega arith
 
 pub loop-block-preserved : goal.loop-block-preserved
-loop-block-preserved c = (omega arith, bits-more _ _ _ _ _ c.loop-block.invariant.1 c.lay_seven.ensures, c.lay_seven.auto.0 ∙ c.loop-block.invariant.2)
+loop-block-preserved c = (omega arith, bits-more _ _ _ _ _ c.loop-block.invariant.1 c.lay_seven.ensures, c.lay_seven.auto.out ∙ c.loop-block.invariant.2)
 
 pub shape_of-out : goal.shape_of-out
 shape_of-out c = c.loop-block.invariant.2

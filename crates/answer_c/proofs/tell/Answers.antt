@@ -8,10 +8,10 @@ pub lay-requires : goal.lay-requires
 lay-requires c = omega (arith, c.requires.1)
 
 pub lay_bits-requires : goal.lay_bits-requires
-lay_bits-requires c = omega (arith, c.requires.1, c.lay.auto.0)
+lay_bits-requires c = omega (arith, c.requires.1, c.lay.auto.out)
 
 pub shape_of-out-then-number-eq0 : goal.shape_of-out-then-number-eq0
-shape_of-out-then-number-eq0 c = c.lay_bits.auto.0 ∙ c.lay.auto.0
+shape_of-out-then-number-eq0 c = c.lay_bits.auto.out ∙ c.lay.auto.out
 
 pub returns-then-number-eq0 : goal.returns-then-number-eq0
 returns-then-number-eq0 c = (c.number_of-number.ensures, laid-are _ _ _ _ _ _ _ c.args.a c.lay_bits.ensures c.lay.ensures c.number_of-number.ensures c.place_of-place.ensures c.count_of-count.ensures c.numbers.ensures)

@@ -16,7 +16,7 @@ pub overflow_add-result-in-Moved : goal.overflow_add-result-in-Moved
 overflow_add-result-in-Moved c = omega (arith, decode-low _ _ _ _ _ (sym c.decode-g.ensures ∙ c.in-Moved.is))
 
 pub returns-in-Refused : goal.returns-in-Refused
-returns-in-Refused c = rw (← c.decode-g.ensures, c.g-1.given.1, c.wide.ensures.0)
+returns-in-Refused c = rw (← c.decode-g.ensures, c.in-Refused.is, c.wide.ensures.0)
 
 pub returns-in-Moved : goal.returns-in-Moved
 returns-in-Moved c = rw (← c.decode-g.ensures, c.in-Moved.is)

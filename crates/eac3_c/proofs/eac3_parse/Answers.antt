@@ -9,7 +9,7 @@ use Rattle.answer_c.proofs.Laying.{bare-answer}
 use Rattle.eac3_c.proofs.eac3_parse.Goals as goal
 
 pub tell-requires : goal.tell-requires
-tell-requires c = (subst Bare (sym c.parse-a.ensures.answer) (bare-answer _), omega (arith, c.tell-arg-1.given.0.1))
+tell-requires c = (subst Bare (sym c.parse-a.ensures.answer) (bare-answer _), omega arith)
 
 pub returns : goal.returns
 returns c = record {

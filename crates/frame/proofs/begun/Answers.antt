@@ -13,25 +13,25 @@ each-cur-requires c = record { what = header; stands = c.annex-table.ensures.hea
 
 pub framed-c-requires : goal.framed-c-requires
 unfolding start
-framed-c-requires c = record { annexed = c.annex-table.ensures; right = c.each-cur.ensures.right; fills = kept_fills _ _ _ _ _ _ _ c.least-most.ensures c.each-cur.auto.1.1.0 c.each-cur.auto.1.1.1.0 c.each-cur.auto.1.1.1.1.0 c.each-cur.auto.1.1.1.1.1.0 c.each-cur.auto.1.1.1.1.1.1.0 c.each-cur.auto.1.1.1.1.1.1.1.0; small = small_size _ _ c.each-cur.result _ _ (turned-once c.each-cur.ensures header c.annex-table.ensures.headed) }
+framed-c-requires c = record { annexed = c.annex-table.ensures; right = c.each-cur.ensures.right; fills = kept_fills _ _ _ _ _ _ _ c.least-most.ensures c.each-cur.auto.names c.each-cur.auto.blocks c.each-cur.auto.indexes c.each-cur.auto.firsts c.each-cur.auto.widths c.each-cur.auto.values; small = small_size _ _ c.each-cur.result _ _ (turned-once c.each-cur.ensures header c.annex-table.ensures.headed) }
 
 pub shape_of-names : goal.shape_of-names
-shape_of-names c = c.framed-c.auto.1.0 ∙ c.each-cur.auto.1.1.0
+shape_of-names c = c.framed-c.auto.names ∙ c.each-cur.auto.names
 
 pub shape_of-blocks : goal.shape_of-blocks
-shape_of-blocks c = c.framed-c.auto.1.1.0 ∙ c.each-cur.auto.1.1.1.0
+shape_of-blocks c = c.framed-c.auto.blocks ∙ c.each-cur.auto.blocks
 
 pub shape_of-indexes : goal.shape_of-indexes
-shape_of-indexes c = c.framed-c.auto.1.1.1.0 ∙ c.each-cur.auto.1.1.1.1.0
+shape_of-indexes c = c.framed-c.auto.indexes ∙ c.each-cur.auto.indexes
 
 pub shape_of-firsts : goal.shape_of-firsts
-shape_of-firsts c = c.framed-c.auto.1.1.1.1.0 ∙ c.each-cur.auto.1.1.1.1.1.0
+shape_of-firsts c = c.framed-c.auto.firsts ∙ c.each-cur.auto.firsts
 
 pub shape_of-widths : goal.shape_of-widths
-shape_of-widths c = c.framed-c.auto.1.1.1.1.1.0 ∙ c.each-cur.auto.1.1.1.1.1.1.0
+shape_of-widths c = c.framed-c.auto.widths ∙ c.each-cur.auto.widths
 
 pub shape_of-values : goal.shape_of-values
-shape_of-values c = c.framed-c.auto.1.1.1.1.1.1.0 ∙ c.each-cur.auto.1.1.1.1.1.1.1.0
+shape_of-values c = c.framed-c.auto.values ∙ c.each-cur.auto.values
 
 pub returns : goal.returns
 unfolding start

@@ -37,4 +37,4 @@ returns-in-6 c = meant (sym (ap mode_of c.in-6.is)) c.put-in-6.ensures
 
 pub returns-in_default : goal.returns-in_default
 unfolding bytes
-returns-in_default c = meant (last-mode c.args.acmod (none-of-seven c.args.acmod c.in-0.rest.0.0.0.0.0.0.1 c.in-0.rest.0.0.0.0.0.1 c.in-0.rest.0.0.0.0.1 c.in-0.rest.0.0.0.1 c.in-0.rest.0.0.1 c.in-0.rest.0.1 c.in-0.rest.1)) c.put-in_default.ensures
+returns-in_default c = meant (last-mode c.args.acmod (none-of-seven c.args.acmod c.in_default.in_default-own.rest.0.0.0.0.0.0.1 c.in_default.in_default-own.rest.0.0.0.0.0.1 c.in_default.in_default-own.rest.0.0.0.0.1 c.in_default.in_default-own.rest.0.0.0.1 c.in_default.in_default-own.rest.0.0.1 c.in_default.in_default-own.rest.0.1 c.in_default.in_default-own.rest.1)) c.put-in_default.ensures

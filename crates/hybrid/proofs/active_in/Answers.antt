@@ -1,5 +1,4 @@
 use native.Mathlib.Omega.{arith}
-use Prim.Native.Nat.{◌-◌}
 use Rattle.hybrid.proofs.HybridLaws.{active-none, active_on, active-end}
 use Rattle.hybrid.proofs.active_in.Goals as goal
 

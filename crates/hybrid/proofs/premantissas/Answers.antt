@@ -1,6 +1,5 @@
 use native.Mathlib.Omega.{arith}
 use mathlib.Core.Path.{refl, sym, ◌∙◌}
-use Prim.Native.Nat.{◌-◌}
 use Rattle.hybrid.proofs.HybridLaws.{pres-end, pres-off, pres-on}
 use Rattle.hybrid.proofs.premantissas.Goals as goal
 

@@ -1,7 +1,6 @@
 use Rattle.hybrid.proofs.HybridLaws.{gain-is, next-is, bins-end, bins-off, bins-on}
 use native.Mathlib.Omega.{arith}
 use mathlib.Core.Path.{refl, sym, ◌∙◌}
-use Prim.Native.Nat.{◌-◌}
 use Rattle.hybrid.proofs.read_bins.Goals as goal
 
 pub loop-i-init : goal.loop-i-init

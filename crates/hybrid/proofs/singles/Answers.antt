@@ -1,4 +1,3 @@
-use Prim.Native.Nat.{◌-◌}
 use Rattle.hybrid.proofs.HybridLaws.{singled-none, singled-end, singled-past, singled-on}
 use Rattle.hybrid.proofs.singles.Goals as goal
 

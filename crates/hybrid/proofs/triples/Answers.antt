@@ -1,4 +1,3 @@
-use Prim.Native.Nat.{◌-◌}
 use Rattle.hybrid.proofs.HybridLaws.{tripled-none, tripled-end, tripled-past, tripled-high, tripled-on}
 use Rattle.hybrid.proofs.triples.Goals as goal
 

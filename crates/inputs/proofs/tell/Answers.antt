@@ -14,7 +14,7 @@ pub loop-i-smaller : goal.loop-i-smaller
 loop-i-smaller c = omega arith
 
 pub loop-i-preserved : goal.loop-i-preserved
-loop-i-preserved c = (omega arith, c.loop-i.invariant.1 ∙ puts-more _ c.args.k _ _ (omega (arith, c.well-formed)) ∙ ap (λ m. puts_in m (c.args.k + (c.loop-i.i + 1)) (drop (c.loop-i.i + 1) c.args.numbers)) (sym c.put.ensures))
+loop-i-preserved c = (omega arith, c.loop-i.invariant.1 ∙ puts-more _ c.args.k _ _ (omega (arith, c.well_formed)) ∙ ap (λ m. puts_in m (c.args.k + (c.loop-i.i + 1)) (drop (c.loop-i.i + 1) c.args.numbers)) (sym c.put.ensures))
 
 pub returns : goal.returns
-returns c = sym (c.loop-i.invariant.1 ∙ puts-all _ _ c.args.numbers c.loop-i.i (omega (arith, c.well-formed)))
+returns c = sym (c.loop-i.invariant.1 ∙ puts-all _ _ c.args.numbers c.loop-i.i (omega (arith, c.well_formed)))

@@ -1,5 +1,4 @@
 use mathlib.Core.Path.{refl, sym, ◌∙◌}
-use Prim.Native.Nat.{◌-◌}
 use Rattle.mantissas.proofs.MantissaLaws.{conv-end, conv-past, conv-on}
 use Rattle.mantissas.proofs.one_by_one.Goals as goal
 

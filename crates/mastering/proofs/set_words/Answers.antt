@@ -10,13 +10,7 @@ returns-then-not-accepted c = reader-refuses _ _ _ _ c.parse-read.ensures (sym c
 pub rewrite-number-requires : goal.rewrite-number-requires
 rewrite-number-requires c = listed _ _ _ _ _ _ _ _ c.parse-read.ensures (sym c.accepted.ensures ∙ c.if-not-accepted.false)
 
-pub shape_of-names : goal.shape_of-names
-shape_of-names c = c.names-1.given
-
-pub shape_of-blocks : goal.shape_of-blocks
-shape_of-blocks c = c.blocks-1.given
-
 pub returns : goal.returns
 returns c =
     words-set _ _ _ _ _ _ _ _ c.parse-read.ensures (sym c.accepted.ensures ∙ c.if-not-accepted.false) _ _ _ c.rewrite-number.ensures.0 c.rewrite-number.ensures.1 c.rewrite-number.ensures.2
-    c.edge_answer.ensures
+    c.answer_with.ensures

@@ -31,13 +31,13 @@ pub bounds-firsts-count : goal.bounds-firsts-count
 bounds-firsts-count c = (inside c.requires c.args.count (omega (arith, c.if-most-count.false))).firsts
 
 pub offset_bounds-widths-count : goal.offset_bounds-widths-count
-offset_bounds-widths-count c = omega (arith, (inside c.requires c.args.count (omega (arith, c.if-most-count.false))).widths, c.well-formed.1.1.1.1.0)
+offset_bounds-widths-count c = omega (arith, (inside c.requires c.args.count (omega (arith, c.if-most-count.false))).widths, c.well_formed.1.1.1.1.0)
 
 pub bounds-widths-count : goal.bounds-widths-count
 bounds-widths-count c = (inside c.requires c.args.count (omega (arith, c.if-most-count.false))).widths
 
 pub offset_bounds-values-count : goal.offset_bounds-values-count
-offset_bounds-values-count c = omega (arith, (inside c.requires c.args.count (omega (arith, c.if-most-count.false))).values, c.well-formed.1.1.1.1.1.0)
+offset_bounds-values-count c = omega (arith, (inside c.requires c.args.count (omega (arith, c.if-most-count.false))).values, c.well_formed.1.1.1.1.1.0)
 
 pub bounds-values-count : goal.bounds-values-count
 bounds-values-count c = (inside c.requires c.args.count (omega (arith, c.if-most-count.false))).values

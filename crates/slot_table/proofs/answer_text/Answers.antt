@@ -6,8 +6,8 @@ use Rattle.slot_table.proofs.answer_text.Goals as goal
 
 pub returns-in-Accepted : goal.returns-in-Accepted
 unfolding text_by
-returns-in-Accepted c = meant (sym (ap (λ v. text_by v c.args.a) c.enum_told-1.given.1)) c.table.ensures
+returns-in-Accepted c = meant (sym (ap (λ v. text_by v c.args.a) c.in-Accepted.is)) c.table.ensures
 
 pub returns-in-Refused : goal.returns-in-Refused
 unfolding text_by
-returns-in-Refused c = meant (sym (ap (λ v. text_by v c.args.a) c.enum_told-in-Refused-1.given.1)) c.first_line.ensures
+returns-in-Refused c = meant (sym (ap (λ v. text_by v c.args.a) c.in-Refused.is)) c.first_line.ensures

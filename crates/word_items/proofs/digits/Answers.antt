@@ -1,4 +1,3 @@
-use Prim.Native.Nat.{◌-◌}
 use native.Mathlib.Omega.{arith}
 use Rattle.word_items.specs.Items.{value_to}
 use Rattle.word_items.proofs.Folds.{to_end, value_none, value-more}

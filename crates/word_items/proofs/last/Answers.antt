@@ -1,4 +1,3 @@
-use Prim.Native.Nat.{◌-◌}
 use native.Mathlib.Omega.{arith}
 use Rattle.word_items.specs.Items.{last_to}
 use Rattle.word_items.proofs.Folds.{to_end, last_none, last_more}

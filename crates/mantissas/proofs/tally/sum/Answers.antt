@@ -1,4 +1,3 @@
-use Prim.Native.Nat.{◌-◌}
 use native.Mathlib.Nat.{zero-add}
 use Rattle.mantissas.proofs.TallyLaws.{sum-end, sum-on, sum_fits}
 use Rattle.mantissas.proofs.tally.sum.Goals as goal

@@ -1,7 +1,5 @@
-use Prim.Native.Nat.{◌-◌}
 use Rattle.sideinfo.proofs.BlockLaws.{unknown-all, unknown-none, unknown-some}
 use Rattle.sideinfo.specs.Blocks.{unknown_in}
-use mathlib.Core.Bool.{false}
 use mathlib.Core.Path.{◌∙◌, refl, sym}
 use native.Mathlib.Omega.{arith}
 use Rattle.sideinfo.proofs.blocks.unknown_in.Goals as goal

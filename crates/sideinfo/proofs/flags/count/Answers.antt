@@ -1,4 +1,3 @@
-use Prim.Native.Nat.{◌-◌}
 use Rattle.sideinfo.proofs.StepLaws.{sum-all, sum_more, sum-none}
 use mathlib.Core.Path.{◌∙◌}
 use native.Mathlib.Omega.{arith}

@@ -1,7 +1,5 @@
 use Prim.Native.Nat.{◌-◌, ◌≤◌}
-use Rattle.cells.specs.Cells.{sum}
 use Rattle.sideinfo.specs.Frames.{holding}
-use Rattle.reading.specs.Run.{end}
 use mathlib.Core.Path.{◌≡◌}
 use Rattle.sideinfo.proofs.flags.count.Given as goal
 

@@ -1,4 +1,3 @@
-use Prim.Native.Nat.{◌-◌}
 use Rattle.sideinfo.proofs.StepLaws.{sum-all, sum_more, sum-none}
 use native.Mathlib.Omega.{arith}
 use Rattle.sideinfo.proofs.frames.ceil_log2.Goals as goal

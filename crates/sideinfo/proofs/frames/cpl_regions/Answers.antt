@@ -1,5 +1,3 @@
-use Prim.Native.Nat.{◌-◌}
-use Rattle.cells.specs.Cells.{cell_of}
 use Rattle.sideinfo.proofs.StepLaws.{sum-all, sum_more, sum-none}
 use mathlib.Core.Path.{◌∙◌}
 use native.Mathlib.Omega.{arith}

@@ -1,5 +1,5 @@
 use Prim.Native.Nat.{◌+◌, ◌-◌, ◌≤◌}
-use Rattle.cells.specs.Cells.{cell_of, sum}
+use Rattle.cells.specs.Cells.{cell_of}
 use Rattle.cells.specs.Names.{CPLEXPSTR, CPLSTRE}
 use Rattle.sideinfo.specs.Steps.{sum_of}
 use lib.Dec.{eqb}

@@ -1,4 +1,3 @@
-use Prim.Native.Nat.{◌-◌}
 use Rattle.sideinfo.proofs.FrameLaws.{codes, far-le}
 use Rattle.sideinfo.proofs.StepLaws.{each_all, each_more, each_none}
 use lib.ListN.{length}

@@ -5,7 +5,7 @@ use Rattle.strategy_table.proofs.grid.chosen.Goals as goal
 
 pub returns-in-Value : goal.returns-in-Value
 unfolding chosen_of
-returns-in-Value c = rw c.f-1.given.1 c.sent.ensures
+returns-in-Value c = rw c.in-Value.is c.sent.ensures
 
 pub returns-in-Nothing : goal.returns-in-Nothing
 unfolding chosen_of

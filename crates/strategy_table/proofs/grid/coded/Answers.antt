@@ -5,7 +5,7 @@ use Rattle.strategy_table.proofs.grid.coded.Goals as goal
 
 pub returns-in-Value : goal.returns-in-Value
 unfolding coded_of
-returns-in-Value c = rw c.f-1.given.1 c.expanded.ensures
+returns-in-Value c = rw c.in-Value.is c.expanded.ensures
 
 pub returns-in-Nothing : goal.returns-in-Nothing
 unfolding coded_of
