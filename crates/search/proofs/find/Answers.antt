@@ -1,5 +1,6 @@
 use mathlib.Core.Path.{sym, ◌∙◌}
 use Prim.Native.Nat.{◌-◌}
+use borrow.Author.Rules.{part_to_end}
 use native.Mathlib.Omega.{arith}
 use Rattle.reading.specs.Room.{room}
 use Rattle.search.proofs.Finding.{first-turn, inside, room-is, turn-finds, turn_on, number_is, turn-none}
@@ -32,50 +33,14 @@ overflow_sub-tried c = omega (arith, c.candidate-at.ensures.low)
 pub overflow_add-tried : goal.overflow_add-tried
 overflow_add-tried c = omega (arith, c.candidate-at.ensures.high, c.candidate-at.ensures.low, c.furthest.ensures.1, inside _ _ _ c.less.ensures c.positions-whole.ensures c.loop-tried-test.true)
 
-pub shape_of-names-then-ends : goal.shape_of-names-then-ends
-shape_of-names-then-ends c = c.parse-read.auto.1.0 ∙ c.loop-tried.invariant.same.names
-
-pub shape_of-blocks-then-ends : goal.shape_of-blocks-then-ends
-shape_of-blocks-then-ends c = c.parse-read.auto.1.1.0 ∙ c.loop-tried.invariant.same.blocks
-
-pub shape_of-indexes-then-ends : goal.shape_of-indexes-then-ends
-shape_of-indexes-then-ends c = c.parse-read.auto.1.1.1.0 ∙ c.loop-tried.invariant.same.indexes
-
-pub shape_of-firsts-then-ends : goal.shape_of-firsts-then-ends
-shape_of-firsts-then-ends c = c.parse-read.auto.1.1.1.1.0 ∙ c.loop-tried.invariant.same.firsts
-
-pub shape_of-widths-then-ends : goal.shape_of-widths-then-ends
-shape_of-widths-then-ends c = c.parse-read.auto.1.1.1.1.1.0 ∙ c.loop-tried.invariant.same.widths
-
-pub shape_of-values-then-ends : goal.shape_of-values-then-ends
-shape_of-values-then-ends c = c.parse-read.auto.1.1.1.1.1.1.0 ∙ c.loop-tried.invariant.same.values
-
 pub returns-then-ends : goal.returns-then-ends
-returns-then-ends c = turn-finds _ c.loop-tried.invariant c.less.ensures c.positions-whole.ensures c.loop-tried-test.true (room-is (room c.args.names.now c.args.blocks.now c.args.indexes.now c.args.firsts.now c.args.widths.now c.args.values.now) c.least-room.ensures) c.furthest.ensures c.candidate-at.ensures (part_to_end c.args.capture.now c.candidate-at.result) (record { names = c.parse-read.auto.1.0; blocks = c.parse-read.auto.1.1.0; indexes = c.parse-read.auto.1.1.1.0; firsts = c.parse-read.auto.1.1.1.1.0; widths = c.parse-read.auto.1.1.1.1.1.0; values = c.parse-read.auto.1.1.1.1.1.1.0 }) c.parse-read.ensures (sym c.ends.ensures ∙ c.if-ends.true)
+returns-then-ends c = turn-finds _ c.loop-tried.invariant c.less.ensures c.positions-whole.ensures c.loop-tried-test.true (room-is (room c.args.names.now c.args.blocks.now c.args.indexes.now c.args.firsts.now c.args.widths.now c.args.values.now) c.least-room.ensures) c.furthest.ensures c.candidate-at.ensures (part_to_end c.args.capture.now c.candidate-at.result) (record { names = c.parse-read.auto.names; blocks = c.parse-read.auto.blocks; indexes = c.parse-read.auto.indexes; firsts = c.parse-read.auto.firsts; widths = c.parse-read.auto.widths; values = c.parse-read.auto.values }) c.parse-read.ensures (sym c.ends.ensures ∙ c.if-ends.true)
 
 pub loop-tried-smaller : goal.loop-tried-smaller
 loop-tried-smaller c = omega (arith, c.candidate-at.ensures.low, c.loop-tried-test.true)
 
 pub loop-tried-preserved : goal.loop-tried-preserved
-loop-tried-preserved c = turn_on _ c.loop-tried.invariant c.less.ensures c.positions-whole.ensures c.loop-tried-test.true (room-is (room c.args.names.now c.args.blocks.now c.args.indexes.now c.args.firsts.now c.args.widths.now c.args.values.now) c.least-room.ensures) c.furthest.ensures c.candidate-at.ensures (part_to_end c.args.capture.now c.candidate-at.result) (record { names = c.parse-read.auto.1.0; blocks = c.parse-read.auto.1.1.0; indexes = c.parse-read.auto.1.1.1.0; firsts = c.parse-read.auto.1.1.1.1.0; widths = c.parse-read.auto.1.1.1.1.1.0; values = c.parse-read.auto.1.1.1.1.1.1.0 }) c.parse-read.ensures (sym c.ends.ensures ∙ c.if-ends.false) c.count_of-count.ensures
-
-pub shape_of-names : goal.shape_of-names
-shape_of-names c = c.loop-tried.invariant.same.names
-
-pub shape_of-blocks : goal.shape_of-blocks
-shape_of-blocks c = c.loop-tried.invariant.same.blocks
-
-pub shape_of-indexes : goal.shape_of-indexes
-shape_of-indexes c = c.loop-tried.invariant.same.indexes
-
-pub shape_of-firsts : goal.shape_of-firsts
-shape_of-firsts c = c.loop-tried.invariant.same.firsts
-
-pub shape_of-widths : goal.shape_of-widths
-shape_of-widths c = c.loop-tried.invariant.same.widths
-
-pub shape_of-values : goal.shape_of-values
-shape_of-values c = c.loop-tried.invariant.same.values
+loop-tried-preserved c = turn_on _ c.loop-tried.invariant c.less.ensures c.positions-whole.ensures c.loop-tried-test.true (room-is (room c.args.names.now c.args.blocks.now c.args.indexes.now c.args.firsts.now c.args.widths.now c.args.values.now) c.least-room.ensures) c.furthest.ensures c.candidate-at.ensures (part_to_end c.args.capture.now c.candidate-at.result) (record { names = c.parse-read.auto.names; blocks = c.parse-read.auto.blocks; indexes = c.parse-read.auto.indexes; firsts = c.parse-read.auto.firsts; widths = c.parse-read.auto.widths; values = c.parse-read.auto.values }) c.parse-read.ensures (sym c.ends.ensures ∙ c.if-ends.false) c.count_of-count.ensures
 
 pub returns : goal.returns
-returns c = turn-none _ c.loop-tried.invariant c.less.ensures c.positions-whole.ensures c.positions-tries.ensures c.loop-tried-test.false (number_is _ c.less-2.ensures c.None-number.ensures) c.last_count.ensures c.none_found.ensures
+returns c = turn-none _ c.loop-tried.invariant c.less.ensures c.positions-whole.ensures c.positions-tries.ensures c.loop-tried-test.false (number_is _ c.less-2.ensures c.none_number-number.ensures) c.last_count.ensures c.none_found.ensures
