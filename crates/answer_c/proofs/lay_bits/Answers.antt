@@ -1,5 +1,4 @@
 use mathlib.Core.Path.{refl, ◌∙◌}
-use Prim.Native.Nat.{◌-◌}
 use native.Mathlib.Omega.{arith}
 use Rattle.answer_c.proofs.Laying.{bits_none, bits-more, bits-all}
 use Rattle.answer_c.proofs.lay_bits.Goals as goal
