@@ -9,4 +9,4 @@ pub slice_bounds-read_full-end : goal.slice_bounds-read_full-end
 slice_bounds-read_full-end c = rw length-take (omega arith)
 
 pub returns : goal.returns
-returns c = drop_at c.read_full.new.1.0 (drop c.args.n (replicate 4200 0)) c.args.n (c.read_full.auto.1.0 ∙ length-take-le c.args.n (replicate 4200 0) (rw length-replicate c.requires))
+returns c = drop_at c.read_full.new.bytes (drop c.args.n (replicate 4200 0)) c.args.n (c.read_full.auto.bytes ∙ length-take-le c.args.n (replicate 4200 0) (rw length-replicate c.requires))
