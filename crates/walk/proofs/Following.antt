@@ -16,7 +16,7 @@ use Rattle.reading.proofs.Trees.{bind-right}
 use Rattle.slots.proofs.Tests.{both}
 use Rattle.cells.specs.Cells.{State, addr, sum, place_of, stored, part_of, put_in, cell_of}
 use Rattle.derivations.specs.Derivations.{derived}
-use Rattle.rows.specs.Syntax.{holds_of, Fixed, Held, Item, Block, element, elements, span, mantissas, exponents, when, each, reject, reject_at, put, fill, derive, end, ◌⨾◌, ◌⧺◌, turns, one, item, meaning}
+use Rattle.rows.specs.Syntax.{holds_of, Fixed, Held, Item, Block, element, elements, span, mantissas, exponents, when, each, reject, reject_at, put, fill, derive, end, ◌⨾◌, ◌⧺◌, turns, one, meaning}
 use Rattle.rows.specs.Rows.{Row, Elements, Span, Mantissas, Exponents, When, Each, Put, Fill, Do, mask_of, cell_in, maskable, is_relation, refusal, row, flat, rows_of, size, plain_in, plain, row_of, width_in}
 use Rattle.rows.specs.Steps.{Move, runs, go, deals, loops, dealing, dealt_of, step_of}
 use Rattle.rows.specs.Standing.{Stands, narrow, all_narrow}

@@ -1,13 +1,9 @@
 use mathlib.Core.Path.{refl, ap, ◌∙◌}
 use native.Mathlib.Omega.{arith}
-use Rattle.reading.specs.Room.{room}
 use Rattle.syntax.specs.declared.Cursor.{Cursor}
 use Rattle.syntax.proofs.Rooms.{same-trans}
-use Rattle.cells.specs.Cells.{state}
-use Rattle.slots.specs.Held.{bins}
 use Rattle.rows.proofs.StepLaws.{skip_by, stop-none, deal-derive}
-use Rattle.walk.proofs.Walks.{EachInv, RowsInv, weigh, stand-end, stand-inside, stand-within, stand-ready, stand-opens, turns-start, turns-on, turns-off, turns-end, rows_start, rows_none, rows-one, one-off, more-fewer, rows-gather, gather-off, rows-when, rows-deal, deal-off, loop-within, loop-stand, rows-each, each-off, weigh-next, weigh-skip, weigh-past, weigh-more, shorter}
-use Prim.Native.Nat.{ℕ, ◌<◌, ◌-◌}
+use Rattle.walk.proofs.Walks.{stand-end, stand-inside, stand-within, stand-ready, stand-opens, turns-start, turns-on, turns-off, turns-end, rows_start, rows_none, rows-one, one-off, more-fewer, rows-gather, gather-off, rows-when, rows-deal, deal-off, loop-within, loop-stand, rows-each, each-off, weigh-next, weigh-skip, weigh-past, weigh-more, shorter}
 use Rattle.walk.proofs.+each.Goals as goal
 
 pub loop-j-init : goal.loop-j-init

@@ -1,4 +1,3 @@
-use mathlib.Core.Path.{◌≡◌}
 use Prim.Native.Nat.{◌-◌}
 use Rattle.reading.specs.Room.{room}
 use Rattle.cells.specs.Cells.{state}
