@@ -14,7 +14,6 @@ use Rattle.alloc.specs.declared.Params.{Params}
 use Rattle.alloc.specs.declared.Pointers.TheVariants.{Bap, Hebap}
 use Rattle.alloc.proofs.Lists.{zeros}
 use Rattle.slots.specs.Slots.{requested_of, pointer}
-use Rattle.slots.specs.Held.{bins}
 use Rattle.slots.specs.declared.Shape.{Shape}
 use Rattle.allocation.specs.State.{Allocated, allocated, silent_of, channel_of, leak_for, kind_of, segments_of, exps_in, pointed_of, pointers_of, point_slot, point_slots, params_for, by_sent, allocated_of}
 use Rattle.allocation.specs.declared.AllocState.{AllocState}
