@@ -2,7 +2,7 @@
 use mathlib.Core.Path.{◌≡◌, refl, ap, subst, ◌∙◌}
 use mathlib.Core.Bool.{Bool, true, false, true≢false, cond, not, ◌&&◌, ◌||◌}
 use mathlib.Core.List.{List, [], ◌∷◌}
-use Prim.Native.Nat.{ℕ, zero, suc, ◌+◌, ◌-◌, min, ◌≤◌, ◌<◌}
+use Prim.Native.Nat.{ℕ, zero, suc, ◌+◌, ◌-◌, ◌≤◌, ◌<◌}
 use native.Mathlib.Omega.{arith}
 use lib.Dec.{leb}
 use lib.ListN.{length, get_or, set, drop, replicate, length-set, get_or-replicate}
@@ -11,7 +11,7 @@ use borrow.Author.Tests.{leb-true}
 use Rattle.bits.specs.Bits.{bits_at}
 use Rattle.reading.specs.Tree.{Skim, stop, fail, at, take, ◌>>-◌}
 use Rattle.reading.specs.Run.{accepted, refused, out, skim}
-use Rattle.slots.specs.Slots.{CPL, LFE, range_of, read_of}
+use Rattle.slots.specs.Slots.{CPL, LFE, read_of}
 use Rattle.slots.specs.declared.Shape.{Shape}
 use Rattle.skim.specs.Counted.{Counted, counted, counting}
 use Rattle.mantissas.specs.Mantissas.{conventional_of}

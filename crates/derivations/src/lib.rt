@@ -2,7 +2,7 @@
 #![tactic(auto)]
 
 pub mod allocating;
-pub mod mantissas;
+pub mod block_mantissas;
 pub mod sets;
 
 ghost use Rattle.std.specs.Prelude.{◌≡◌};

@@ -2,7 +2,7 @@
 use Prim.Native.Nat.{ℕ, suc, ◌+◌, ◌-◌, ◌%◌, ◌≤◌, ◌<◌}
 use mathlib.Core.Bool.{Bool, true, false, cond}
 use mathlib.Core.Path.{◌≡◌, refl, sym, ap, ap₂, ◌∙◌}
-use mathlib.Core.List.{List, [], ◌∷◌}
+use mathlib.Core.List.{List, ◌∷◌}
 use native.Mathlib.Omega.{arith}
 use native.Mathlib.Decide.{dec_le, ℕ_discrete}
 use native.Mathlib.Numerals.{add-one}
@@ -19,7 +19,7 @@ use Rattle.reading.specs.Room.{Room, size, pushed, Out, got, record_in, skimmed_
 use Rattle.reading.proofs.Rooms.{go_on, ◌then◌, exec-bind}
 use Rattle.syntax.specs.Records.{part, outcome}
 use Rattle.syntax.specs.declared.Cursor.{Cursor}
-use Rattle.slots.specs.Held.{Bins, bins}
+use Rattle.slots.specs.Held.{bins}
 use Rattle.exponents.specs.Set.{set_of}
 use Rattle.exponents.specs.SetRead.{SetRead}
 use Rattle.plan.specs.Taken.{taken}

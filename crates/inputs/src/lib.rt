@@ -11,7 +11,7 @@ ghost use Rattle.inputs.specs.Reads.{Wide, Ready, bits_of, passed_of, passed_by,
 use bits::{BitPlace, bits_at, past};
 use cells::numbers::{ABSEXP, BLOCK};
 use cells::{cell_of, put};
-use derivations::mantissas::mantissas_in;
+use derivations::block_mantissas::mantissas_in;
 use derivations::sets::{end_of, start_of, strategy_of};
 use exponents::set::read_exponents;
 use kept::stale;

@@ -1,5 +1,5 @@
 -- The rows of a syntax: what a row's number says, and the rows of a block. A reader of the syntax needs none of it.
-use Rattle.std.specs.Prelude.{ℕ, zero, suc, ◌+◌, ◌-◌, ◌*◌, ◌/◌, ◌%◌, ◌^◌, min, Bool, true, false, cond, not, ◌&&◌, List, [], ◌∷◌, ltb, leb, eqb}
+use Rattle.std.specs.Prelude.{ℕ, zero, suc, ◌+◌, ◌*◌, ◌/◌, ◌%◌, ◌^◌, min, Bool, true, false, cond, not, ◌&&◌, List, [], ◌∷◌, ltb, leb, eqb}
 use Rattle.cells.specs.Cells.{held_of, sum_of, Addr, Sum, addr, sum}
 use Rattle.rows.specs.declared.steps.Loop.{Loop}
 use Rattle.rows.specs.Syntax.{Number, Cell, Word, Cond, Is, Not, Above, Below, Among, Differs, Over, Under, AtLeast, among, Value, Here, Let, Less, Plus, Minus, Count, Fixed, Held, count_of, Item, Block, element, elements, span, mantissas, exponents, when, each, reject, reject_at, put, fill, derive, end, ◌⨾◌}

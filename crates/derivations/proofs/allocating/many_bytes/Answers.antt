@@ -1,4 +1,3 @@
-use Prim.Native.Nat.{◌-◌}
 use Rattle.sideinfo.proofs.StepLaws.{each_all, each_more, each_none, set_all}
 use mathlib.Core.Path.{◌∙◌}
 use native.Mathlib.Omega.{arith}

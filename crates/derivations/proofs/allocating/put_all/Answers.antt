@@ -1,4 +1,3 @@
-use Prim.Native.Nat.{◌-◌}
 use Rattle.sideinfo.proofs.StepLaws.{each_all, each_more, each_none}
 use native.Mathlib.Omega.{arith}
 use Rattle.derivations.proofs.allocating.put_all.Goals as goal

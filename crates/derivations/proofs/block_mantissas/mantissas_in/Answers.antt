@@ -1,6 +1,6 @@
 use Rattle.derivations.specs.Mantissas.{mantissas_in}
 use mathlib.Core.Path.{◌∙◌}
-use Rattle.derivations.proofs.mantissas.mantissas_in.Goals as goal
+use Rattle.derivations.proofs.block_mantissas.mantissas_in.Goals as goal
 
 pub returns : goal.returns
 unfolding mantissas_in
