@@ -16,4 +16,4 @@ pub returns-in-33 : goal.returns-in-33
 returns-in-33 c = ap kind_of (sym c.in-33.is)
 
 pub returns-in_default : goal.returns-in_default
-returns-in_default c = rw (ne_eqb c.args.number 5 c.in-5.rest.0.0.0.1) (rw (ne_eqb c.args.number 9 c.in-5.rest.0.0.1) (rw (ne_eqb c.args.number 8 c.in-5.rest.0.1) (rw (ne_eqb c.args.number 33 c.in-5.rest.1) refl)))
+returns-in_default c = rw (ne_eqb c.args.number 5 c.in_default.in_default-own.rest.0.0.0.1) (rw (ne_eqb c.args.number 9 c.in_default.in_default-own.rest.0.0.1) (rw (ne_eqb c.args.number 8 c.in_default.in_default-own.rest.0.1) (rw (ne_eqb c.args.number 33 c.in_default.in_default-own.rest.1) refl)))

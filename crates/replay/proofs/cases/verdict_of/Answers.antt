@@ -9,4 +9,4 @@ returns-in-Accepted c = rw c.in-Accepted.is refl
 
 pub returns-in-Refused : goal.returns-in-Refused
 unfolding verdict_of
-returns-in-Refused c = rw c.v-1.given.1 c.kind.ensures
+returns-in-Refused c = rw c.in-Refused.is c.kind.ensures
