@@ -1,13 +1,12 @@
 -- What an accepted run of a tree gives, and of items one after another. Assumes nothing.
-use mathlib.Core.Path.{◌≡◌, refl, sym, ◌∙◌, subst}
-use mathlib.Core.Bool.{Bool, true, false, cond}
+use mathlib.Core.Path.{◌≡◌, refl, sym, subst}
 use mathlib.Core.List.{List}
 use Prim.Native.Nat.{ℕ, ◌+◌}
 use native.Mathlib.Omega.{arith}
 use lib.Dec.{leb}
 use Rattle.reading.proofs.Laws.{test, choice}
 use Rattle.bits.specs.Bits.{bits_at}
-use Rattle.reading.specs.Tree.{Tree, done, refuse, read, ◌>>=◌}
+use Rattle.reading.specs.Tree.{Tree, ◌>>=◌}
 use Rattle.reading.specs.Run.{Result, accepted, refused, Outcome, and_then, after, run}
 use Rattle.reading.proofs.Runs.{run_bind}
 use Rattle.cells.specs.Cells.{State, Addr, Sum, place_of, stored}

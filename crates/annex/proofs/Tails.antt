@@ -1,23 +1,23 @@
 -- The rows of the tail mean the tail of every frame. Assumes nothing.
-use mathlib.Core.Path.{◌≡◌, refl, ap, sym, subst, fun_ext, ◌∙◌}
+use mathlib.Core.Path.{◌≡◌, refl, ap, fun_ext, ◌∙◌}
 use mathlib.Core.Bool.{Bool, true, false, cond, not}
 use mathlib.Core.List.{List}
-use Prim.Native.Nat.{ℕ, ◌+◌, ◌-◌, ◌*◌, ◌%◌, ◌≤◌, ◌<◌, ◌^◌}
+use Prim.Native.Nat.{ℕ, ◌+◌, ◌-◌, ◌*◌, ◌%◌, ◌≤◌, ◌<◌}
 use native.Mathlib.Omega.{arith}
 use native.Mathlib.Decide.{dec_le}
 use lib.Dec.{leb, ltb, eqb}
 use lib.ListN.{length}
-use borrow.Author.Tests.{le-leb, lt-leb, lt-ltb, le-ltb, eqb-true, eqb-false, leb-true, leb-false}
+use borrow.Author.Tests.{le-leb, lt-leb, lt-ltb, le-ltb, eqb-true}
 use Rattle.bits.specs.Bits.{bits_at}
 use Rattle.bits.proofs.BitLaws.{bits_at-lt}
-use Rattle.reading.specs.Tree.{Part, Tree, done, refuse, ahead, here, read, span as spanned, ◌>>=◌}
-use Rattle.reading.specs.Run.{field_of, accepted, refused}
-use Rattle.reading.specs.Room.{Room, Out, got, size, pushed, record_in, exec}
+use Rattle.reading.specs.Tree.{Part, Tree, done, refuse, ahead, read, span as spanned, ◌>>=◌}
+use Rattle.reading.specs.Run.{field_of, refused}
+use Rattle.reading.specs.Room.{Room, Out, got, size, pushed, exec}
 use Rattle.reading.specs.Frame.{plain, ending, tail as tailOf}
 use Rattle.reading.proofs.Trees.{bind_assoc}
 use Rattle.names.specs.Names.{auxbits, auxdatae, auxdatal, crc2, encinfo}
 use Rattle.slots.specs.Held.{Bins}
-use Rattle.cells.specs.Cells.{State, state, cell_of, put_in, stored, addr, place_of, held_of, part_of}
+use Rattle.cells.specs.Cells.{State, state, cell_of, put_in, stored, place_of, held_of, part_of}
 use Rattle.cells.specs.Names.{AFTER_AUDIO, AFTER_AUXDATAE, AUXDATAE, AUXDATAL, BLOCK, FRAME_END, WIDTH}
 use Rattle.cells.proofs.Cells.{put-sized, cell_same, cell_other}
 use Rattle.rows.specs.Syntax.{Cond, Is, Not, Under, Over, Word, Value, Here, Less, Minus, Item, Block, end, ◌⨾◌, element, span, when, reject, reject_at, put, cell, no as unkept, none, held, holds_of, amount_of, item, meaning}

@@ -1,6 +1,5 @@
 -- The names that the pages of Annex E keep nowhere. Computed; assumes nothing.
 use mathlib.Core.Path.{refl}
-use mathlib.Core.List.{map}
 use Rattle.names.specs.Names.{names}
 use Rattle.rows.specs.Syntax.{◌⧺◌, among}
 use Rattle.rows.specs.Unkept.{unkept}

@@ -1,5 +1,5 @@
 -- The first word and bsid, as the definition's header has them. Assumes nothing.
-use mathlib.Core.Path.{◌≡◌, refl, ap, sym, subst, ◌∙◌}
+use mathlib.Core.Path.{◌≡◌, refl, ap, sym, ◌∙◌}
 use mathlib.Core.Bool.{Bool, true, false, cond, not, ◌&&◌, true≢false}
 use mathlib.Core.List.{List}
 use Prim.Native.Nat.{ℕ, ◌+◌, ◌%◌, ◌≤◌, ◌<◌}
@@ -23,7 +23,7 @@ use Rattle.cells.specs.Cells.{State, Addr, Sum, cell_of, put_in, stored, place_o
 use Rattle.rows.specs.Syntax.{Cond, holds_of, end, ◌⨾◌, element, reject, item, meaning}
 use Rattle.annex.specs.Syncinfo.{syncinfo}
 use Rattle.annex.specs.Frame.{start, eac3}
-use Rattle.opening.specs.Opened.{stopped_by, Begun, GoesOn, TooShort, Opened}
+use Rattle.opening.specs.Opened.{stopped_by, Begun, Opened}
 
 -- a record at the count n, and then the refusal k at the place next
 abbrev refused_after : Field → ℕ → ℕ → ℕ → Room → Out State
