@@ -1,6 +1,6 @@
 -- A frame holds at most 16 loudness words: the pages say how many an item can make, and how often a loop turns at most. Assumes nothing.
 use mathlib.Core.Path.{◌≡◌, refl}
-use mathlib.Core.Bool.{Bool, true, false, cond, ◌&&◌, true≢false}
+use mathlib.Core.Bool.{Bool, true, false, cond, ◌&&◌}
 use mathlib.Core.List.{List, [], ◌∷◌, ◌++◌}
 use Prim.Native.Nat.{ℕ, zero, suc, ◌+◌, ◌-◌, ◌*◌, ◌≤◌}
 use native.Mathlib.Omega.{arith}
@@ -8,14 +8,13 @@ use lib.Dec.{leb, eqb}
 use lib.ListN.{length}
 use borrow.Author.Tests.{eqb-true}
 use Rattle.bits.specs.Bits.{bits_at}
-use Rattle.reading.specs.Tree.{Tree, done, refuse, ahead, ◌>>=◌}
+use Rattle.reading.specs.Tree.{Tree, done, refuse, ◌>>=◌}
 use Rattle.reading.specs.Run.{Entry, Result, accepted, refused, Outcome, out, and_then, after, run}
 use Rattle.reading.specs.Records.{All}
 use Rattle.reading.specs.Frame.{header_by, seen, headed, auxdatae_at, tail, finish, framed, sized, parse}
-use Rattle.reading.proofs.Laws.{test, choice}
+use Rattle.reading.proofs.Laws.{test}
 use Rattle.reading.proofs.Runs.{run_bind}
-use Rattle.cells.specs.Cells.{State, Addr, Sum, cell_of, stored, sum_of}
-use Rattle.derivations.specs.Derivations.{derived}
+use Rattle.cells.specs.Cells.{State, Addr, Sum, stored, sum_of}
 use Rattle.rows.specs.Syntax.{Item, Block, element, elements, span, mantissas, exponents, when, each, reject, reject_at, put, fill, derive, end, ◌⨾◌, holds_of, count_of, turns, one, item, meaning}
 use Rattle.words.specs.Words.{width_of}
 use Rattle.annex.specs.Syncinfo.{syncinfo, bsi_size}
