@@ -2,9 +2,9 @@
 use mathlib.Core.Path.{◌≡◌, sym}
 use mathlib.Core.Bool.{Bool, true, false}
 use mathlib.Core.List.{◌++◌}
-use Prim.Native.Nat.{ℕ, zero, suc, ◌+◌, ◌≤◌}
+use Prim.Native.Nat.{ℕ, zero, suc, ◌≤◌}
 use native.Mathlib.Omega.{arith}
-use lib.ListN.{length, get_or, length-append, length-replicate, get_or-eq_default}
+use lib.ListN.{length, length-append, length-replicate, get_or-eq_default}
 use Rattle.names.specs.Spelling.{bytes}
 use Rattle.print.proofs.Decimals.{few}
 use Rattle.answer.specs.declared.Frame.{Frame}

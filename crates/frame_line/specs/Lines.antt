@@ -1,5 +1,5 @@
 -- The lines of the program `frames`, as text. Numbers stand at the right ends of their columns.
-use Rattle.std.specs.Prelude.{Bool, true, false, cond, List, [], ◌∷◌, ◌++◌, ℕ, eqb, get_or}
+use Rattle.std.specs.Prelude.{Bool, cond, List, [], ◌∷◌, ◌++◌, ℕ, eqb, get_or}
 use Rattle.names.specs.Spelling.{bytes}
 use Rattle.print.specs.Text.{decimal_of, right_of}
 use Rattle.answer.specs.declared.Frame.{Frame}

@@ -1,14 +1,14 @@
 -- Laws of a listing. Assumes nothing.
-use mathlib.Core.Path.{◌≡◌, refl, sym, ap, ap₂, ◌∙◌}
-use mathlib.Core.List.{List, [], ◌∷◌, ◌++◌}
+use mathlib.Core.Path.{◌≡◌, sym, ap, ap₂}
+use mathlib.Core.List.{List}
 use Prim.Native.Nat.{ℕ, zero, suc, ◌+◌, ◌*◌, ◌≤◌, min}
 use native.Mathlib.Numerals.{add-one}
 use native.Mathlib.Omega.{arith}
 use lib.IntN.{ℤ, pos, negsuc}
 use lib.ListN.{length, get_or, length-append}
-use Rattle.names.specs.Spelling.{bytes, spelling_of}
+use Rattle.names.specs.Spelling.{bytes}
 use Rattle.names.proofs.Rows.{spelling-short}
-use Rattle.print.specs.Text.{digits, decimal_of, signed_of, Added}
+use Rattle.print.specs.Text.{decimal_of, signed_of, Added}
 use Rattle.print.proofs.Adding.{◌then◌, meant}
 use Rattle.print.proofs.Decimals.{few}
 use Rattle.answer.specs.Answer.{count_of}
@@ -16,7 +16,7 @@ use Rattle.answer.specs.declared.Frame.{Frame}
 use Rattle.answer.specs.declared.Verdict.{Verdict}
 use Rattle.answer.specs.declared.Verdict.TheVariants.{Accepted, Refused}
 use Rattle.listing.specs.declared.Records.{Records}
-use Rattle.listing.specs.Listing.{word, last, three_line, first_by, first_line, record_line, line_of, lines_of, listing_of}
+use Rattle.listing.specs.Listing.{three_line, first_by, record_line, lines_of, listing_of}
 
 -- one line more
 pub one_more : {old mid new : List ℕ} {at n size : ℕ} (r : Records) (i : ℕ) (b x : ℤ) → b ≡ get_or r.blocks i (pos 0) → x ≡ get_or r.indexes i (pos 0)

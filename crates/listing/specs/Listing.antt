@@ -1,5 +1,5 @@
 -- The text that lists a frame (document 01, module 8).
-use Rattle.std.specs.Prelude.{◌≡◌, List, [], ◌∷◌, ◌++◌, ℕ, zero, suc, ◌≤◌, min, ℤ, pos, get_or}
+use Rattle.std.specs.Prelude.{List, [], ◌∷◌, ◌++◌, ℕ, zero, suc, min, ℤ, pos, get_or}
 use Rattle.names.specs.Spelling.{bytes, spelling_of}
 use Rattle.print.specs.Text.{decimal_of, signed_of}
 use Rattle.answer.specs.Answer.{count_of}

@@ -1,5 +1,4 @@
 use mathlib.Core.Path.{◌≡◌, ap}
-use Prim.Native.Nat.{◌-◌}
 use native.Mathlib.Omega.{arith}
 use mir.Syntax.{w8, w16}
 use mir.Facts.{to_z-of_z}
