@@ -1,24 +1,23 @@
 -- The parts of a frame, one after another, are the definition. Assumes nothing.
 use mathlib.Core.Path.{◌≡◌, refl, ap, sym, subst, ◌∙◌}
-use mathlib.Core.Bool.{Bool, true, false, cond, not}
+use mathlib.Core.Bool.{Bool, true, false, cond}
 use mathlib.Core.List.{List, []}
 use Prim.Native.Nat.{ℕ, ◌+◌, ◌-◌, ◌*◌, ◌%◌, ◌≤◌, ◌<◌, min}
 use native.Mathlib.Omega.{arith}
 use native.Mathlib.Decide.{dec_lt}
 use native.Mathlib.Nat.{add-zero}
-use lib.Dec.{leb}
 use lib.ListN.{length, get_or, replicate, get_or-replicate, length-replicate}
-use borrow.Author.Tests.{le-leb, lt-leb, leb-true}
+use borrow.Author.Tests.{le-leb, lt-leb}
 use Rattle.bits.specs.Bits.{bits_at}
 use Rattle.bits.proofs.BitLaws.{bits_at-lt}
 use Rattle.reading.specs.Tree.{Tree, done, ◌>>=◌}
 use Rattle.reading.specs.Run.{accepted, refused, Outcome, out, after, run}
-use Rattle.reading.specs.Frame.{Format, header_by, seen, tail as tailOf, finish, framed, sized, parse}
+use Rattle.reading.specs.Frame.{header_by, seen, tail as tailOf, finish, framed, parse}
 use Rattle.reading.specs.Room.{Room, size, cut, fill, Out, got, into, exec}
 use Rattle.reading.proofs.Rooms.{cut-same, go_on, ◌then◌, exec-bind, exec-is, into-after}
 use Rattle.short_frames.specs.ShortFrames.{up_to}
 use Rattle.short_frames.specs.Tested.{tested, unfit_by}
-use Rattle.short_frames.proofs.ShortFrames.{parse-is, parse-alike}
+use Rattle.short_frames.proofs.ShortFrames.{parse-is}
 use Rattle.short_frames.proofs.Sizes.{fit-bounds, unfit-tested, fit-tested}
 use Rattle.syntax.specs.Records.{outcome, halted_at}
 use Rattle.syntax.specs.Rooms.{Fills}
@@ -29,16 +28,16 @@ use Rattle.inputs.specs.Reads.{Right}
 use Rattle.cells.specs.Cells.{State, state, cell_of, put_in}
 use Rattle.cells.specs.Names.{AUXDATAE, BLOCK, FRAME_END, FRMSIZ}
 use Rattle.cells.proofs.Cells.{put-sized, cell_same, cell_other, cell-none}
-use Rattle.rows.specs.Syntax.{end, meaning}
+use Rattle.rows.specs.Syntax.{meaning}
 use Rattle.annex.specs.Annex.{header, body}
 use Rattle.annex.specs.Tail.{tail}
-use Rattle.annex.specs.Frame.{start, tail_names, bytes_of, announced_by, eac3}
-use Rattle.annex.proofs.Header.{sized-is, header_of, tells}
+use Rattle.annex.specs.Frame.{start, tail_names, bytes_of, eac3}
+use Rattle.annex.proofs.Header.{sized-is, header_of}
 use Rattle.annex.proofs.Tails.{Outside, rows-tail}
-use Rattle.answer.specs.Answer.{answer_of, number_of, place_of as answerPlace, count_of}
+use Rattle.answer.specs.Answer.{answer_of}
 use Rattle.answer.specs.Cursors.{refusal_from, answer_from}
 use Rattle.answer.specs.declared.Answer.{Answer}
-use Rattle.answer.proofs.Laws.{answer-from, number_by, place-by, count_by}
+use Rattle.answer.proofs.Laws.{answer-from}
 use Rattle.opening.specs.Opened.{Opened}
 use Rattle.frame.specs.Parts.{placed, followed, read_of, read_by, ReadBy}
 
