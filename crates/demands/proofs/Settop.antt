@@ -1,6 +1,6 @@
 -- The settop entry, beside the full one. Assumes nothing.
 use mathlib.Core.Path.{◌≡◌, refl, ap, sym, ◌∙◌, subst}
-use mathlib.Core.Bool.{Bool, true, false, not, cond, ◌||◌, true≢false}
+use mathlib.Core.Bool.{Bool, true, false, cond, ◌||◌, true≢false}
 use mathlib.Core.List.{List, [], ◌∷◌, ◌++◌, map}
 use mathlib.Core.Logic.{by_cases, ◌⊎◌, inl, inr}
 use mathlib.Core.Option.{some}
@@ -26,7 +26,6 @@ use Rattle.cells.specs.Cells.{State, Addr, Sum, place_of, stored, cell_of, put_i
 use Rattle.cells.specs.Names.{SYNCWORD}
 use Rattle.rows.specs.Syntax.{Cond, holds_of, Block, end, ◌⨾◌, element, reject, among, item, meaning}
 use Rattle.annex.specs.Syncinfo.{syncinfo, bsi_size}
-use Rattle.annex.specs.Annex.{header}
 use Rattle.annex.specs.Frame.{start, bytes_of, announced_by, eac3}
 use Rattle.annex.proofs.Header.{headed_is, headed-gives, sized-is, tells}
 use Rattle.outcomes.specs.Outcomes.{refusals, Numbered, Named, AtMost}

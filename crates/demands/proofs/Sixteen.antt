@@ -16,7 +16,7 @@ use Rattle.cells.specs.Cells.{State}
 use Rattle.annex.specs.Frame.{eac3}
 use Rattle.loudness.specs.Sixteen.{words_in}
 use Rattle.loudness.proofs.Sixteen.{sixteen-words}
-use Rattle.demands.specs.Calls.{Call, count, record_at}
+use Rattle.demands.specs.Calls.{count, record_at}
 use Rattle.demands.specs.Sixteen.{words_to, SixteenListed}
 use Rattle.demands.proofs.Calls.{outcome, counts, holds}
 

@@ -4,7 +4,7 @@ use mathlib.Core.Path.{◌≡◌, refl, ap, sym, ◌∙◌, subst}
 use mathlib.Core.Bool.{Bool, true, false, cond}
 use mathlib.Core.List.{List, [], ◌∷◌, ◌++◌, map, append_assoc}
 use mathlib.Core.Option.{some}
-use mathlib.Core.Logic.{◌⊎◌, inl, inr}
+use mathlib.Core.Logic.{inl, inr}
 use Prim.Native.Nat.{ℕ, suc, ◌+◌, ◌-◌, ◌*◌, ◌≤◌, ◌<◌}
 use native.Mathlib.Omega.{arith}
 use lib.Dec.{leb, eqb}
@@ -13,7 +13,7 @@ use lib.ListN.{length, get_or, get_elem?}
 use Rattle.bits.specs.Bits.{bits_at}
 use Rattle.reading.specs.Tree.{Tree, done, refuse, ahead, here, read, span, scan}
 use Rattle.reading.specs.Run.{Field, Entry, element, region, Result, accepted, refused, Outcome, out, cons, and_then, after, skim, run}
-use Rattle.reading.specs.Room.{size, cut}
+use Rattle.reading.specs.Room.{size}
 use Rattle.reading.specs.Frame.{TailNames, plain, headed, auxdatae_at, ending, tail, finish, framed, sized, parse}
 use Rattle.reading.proofs.Rooms.{cut-same}
 use Rattle.names.specs.Names.{mantissas}
