@@ -1,6 +1,6 @@
 -- Laws of the table's text. Assumes nothing.
 use mathlib.Core.Path.{◌≡◌, refl, sym}
-use mathlib.Core.List.{List, [], ◌∷◌, ◌++◌}
+use mathlib.Core.List.{[], ◌∷◌, ◌++◌}
 use Prim.Native.Nat.{ℕ, ◌≤◌}
 use lib.ListN.{get_or-eq_default}
 use Rattle.names.specs.Names.{acmod, numblkscod}

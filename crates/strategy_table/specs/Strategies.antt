@@ -1,5 +1,5 @@
 -- Exponent strategies of a frame, from its records alone: 0 reuse, 1 D15, 2 D25, 3 D45, and 4 for none.
-use Rattle.std.specs.Prelude.{Bool, false, ◌&&◌, cond, List, ℕ, zero, suc, ◌+◌, ◌-◌, ◌*◌, min, eqb, ltb, ℤ, pos, negsuc, get_or}
+use Rattle.std.specs.Prelude.{Bool, false, ◌&&◌, cond, ℕ, zero, suc, ◌+◌, ◌-◌, ◌*◌, min, eqb, ltb, ℤ, pos, negsuc, get_or}
 use Rattle.names.specs.Names.{chexpstr, frmchexpstr, cplinu, cplexpstr, frmcplexpstr, lfeexpstr}
 use Rattle.tables.specs.Small.{frmexpstr}
 use Rattle.listing.specs.declared.Records.{Records}

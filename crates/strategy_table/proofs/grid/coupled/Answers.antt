@@ -1,5 +1,4 @@
 use mathlib.Core.Path.{◌≡◌, refl, ◌∙◌, ap}
-use Prim.Native.Nat.{◌-◌}
 use native.Mathlib.Omega.{arith}
 use Rattle.strategy_table.specs.Strategies.{coupled_of}
 use Rattle.strategy_table.proofs.Laws.{used-next}
