@@ -1,5 +1,4 @@
 use mathlib.Core.Path.{sym, ◌∙◌}
-use Prim.Native.Nat.{◌-◌}
 use borrow.Author.Rules.{part_to_end}
 use native.Mathlib.Omega.{arith}
 use Rattle.reading.specs.Room.{room}
