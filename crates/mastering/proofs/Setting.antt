@@ -16,7 +16,6 @@ use Rattle.reading.specs.Run.{Field, Entry, end, element, Result, accepted, refu
 use Rattle.reading.specs.Records.{All}
 use Rattle.reading.specs.Room.{Room, room, size, Out}
 use Rattle.reading.specs.Frame.{plain, parse}
-use Rattle.reading.specs.CommonReading.{answer, list}
 use Rattle.reading.proofs.Rooms.{cut-same}
 use Rattle.cells.specs.Cells.{State}
 use Rattle.annex.specs.Frame.{eac3}

@@ -1,5 +1,5 @@
 -- What the writing functions ask. Of a frame of b bytes with n records, one or more: it lies in the slices, and each of its words before crc2.
-use Rattle.std.specs.Prelude.{◌≡◌, ℕ, ◌+◌, ◌*◌, ◌/◌, ◌^◌, ◌≤◌, ◌<◌, List, length, get_or}
+use Rattle.std.specs.Prelude.{ℕ, ◌+◌, ◌*◌, ◌/◌, ◌^◌, ◌≤◌, ◌<◌, List, length, get_or}
 use Rattle.words.specs.Words.{width_of}
 
 pub record Listed (long : ℕ) (names firsts : List ℕ) (room b n : ℕ) : Type 0 where

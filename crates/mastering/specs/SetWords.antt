@@ -1,6 +1,6 @@
 -- WRITE MANY LOUDNESS WORDS OR NONE: in the frame at the beginning of a buffer each listed word is set to its value, and crc2 is put right. Nothing else differs.
 -- The items are two lists side by side, places and values, as many as the shorter has. They are tested in order, and all before a bit changes.
-use Rattle.std.specs.Prelude.{◌≡◌, Bool, false, cond, ◌||◌, ◌&&◌, List, ℕ, zero, suc, ◌-◌, min, leb, eqb, length, get_or, set}
+use Rattle.std.specs.Prelude.{◌≡◌, Bool, false, cond, ◌||◌, List, ℕ, zero, suc, ◌-◌, min, leb, eqb, length, get_or, set}
 use Rattle.reading.specs.Room.{Room, room, Out}
 use Rattle.cells.specs.Cells.{State}
 use Rattle.answer.specs.Answer.{answer_of}

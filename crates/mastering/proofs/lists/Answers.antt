@@ -1,4 +1,3 @@
-use Prim.Native.Nat.{◌-◌}
 use native.Mathlib.Omega.{arith}
 use Rattle.mastering.proofs.Rewriting.{listed-none, listed_more, listed-all}
 use Rattle.mastering.proofs.lists.Goals as goal

@@ -1,6 +1,5 @@
 -- A reading; and where it is accepted, the words and crc2 set.
 use mathlib.Core.Path.{sym, ◌∙◌}
-use borrow.Author.Tests.{not-true, not-false}
 use Rattle.mastering.proofs.Entry.{reader-refuses, listed, words-set}
 use Rattle.mastering.proofs.set_words.Goals as goal
 

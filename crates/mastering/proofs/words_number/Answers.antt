@@ -1,4 +1,3 @@
-use Prim.Native.Nat.{◌-◌}
 use native.Mathlib.Omega.{arith}
 use Rattle.mastering.proofs.Rewriting.{number-none, number_more, too_many, number-all}
 use Rattle.mastering.proofs.words_number.Goals as goal

@@ -1,5 +1,4 @@
 use mathlib.Core.Path.{refl, ap, ◌∙◌}
-use Prim.Native.Nat.{◌-◌}
 use native.Mathlib.Omega.{arith}
 use lib.ListN.{length}
 use Rattle.mastering.proofs.Rewriting.{item-asks, worded-none, worded-more, worded-long, worded-all, values-none, values-more, values-long, values-all}
