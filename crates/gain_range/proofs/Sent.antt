@@ -3,7 +3,7 @@ use mathlib.Core.Path.{◌≡◌, refl, sym, ap, ◌∙◌, subst}
 use mathlib.Core.Bool.{Bool, true, false, cond, true≢false}
 use mathlib.Core.List.{List, [], ◌∷◌, map}
 use mathlib.Core.Option.{some}
-use Prim.Native.Nat.{ℕ, zero, suc, ◌+◌, ◌%◌, ◌^◌, ◌≤◌, ◌<◌}
+use Prim.Native.Nat.{ℕ, suc, ◌+◌, ◌%◌, ◌≤◌, ◌<◌}
 use native.Mathlib.Nat.{mod-eq_of_lt, zero-add, add-zero}
 use native.Mathlib.Omega.{arith}
 use lib.Dec.{eqb}
@@ -14,7 +14,7 @@ use Rattle.bits.proofs.BitLaws.{bits_at-lt}
 use Rattle.names.specs.Names.{dynrng, compr, dynrng2, compr2}
 use Rattle.reading.specs.Run.{Field, Entry, Result, accepted, refused, Outcome}
 use Rattle.reading.specs.Records.{All, Valued}
-use Rattle.reading.specs.Room.{Room, room, size, cut}
+use Rattle.reading.specs.Room.{Room, room, size}
 use Rattle.reading.specs.Frame.{parse}
 use Rattle.reading.proofs.Laws.{Ok}
 use Rattle.reading.proofs.Rooms.{cut-same}
@@ -29,7 +29,6 @@ use Rattle.words.specs.Words.{width_of}
 use Rattle.loudness.proofs.Loudness.{word-widths}
 use Rattle.answer.specs.Answer.{answer_by}
 use Rattle.answer.specs.declared.Answer.{Answer}
-use Rattle.gain.specs.Factor.{factor_of}
 use Rattle.gain.specs.Gains.{gains_of}
 use Rattle.gain.specs.Parts.{named}
 use Rattle.gain.specs.declared.Gains.{Gains}
@@ -37,11 +36,10 @@ use Rattle.gain.proofs.Named.{Bytes}
 use Rattle.gain.proofs.Lowest.{kind-holds}
 use Rattle.gain.specs.declared.Kind.TheVariants.{Dynrng, Compr}
 use Rattle.eac3.specs.Called.{Called}
-use Rattle.demands.specs.Calls.{Call, record_at, count, nth}
+use Rattle.demands.specs.Calls.{Call, record_at, count}
 use Rattle.demands.proofs.Calls.{outcome, is, counts, holds}
 use Rattle.demands.proofs.Answers.{all-answer}
 use Rattle.gain_range.specs.GainRange.{words_of, sent_by, sent, Exact, GainsRead}
-use Rattle.gain_range.specs.declared.FrameGains.{FrameGains}
 
 -- ---- a gain word is a byte
 -- of this name: not a span's, and of 8 bits
