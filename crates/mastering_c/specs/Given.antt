@@ -1,7 +1,7 @@
 -- What the C functions that set loudness words tell.
 use Rattle.std.specs.Prelude.{◌≡◌, List, ℕ}
 use Rattle.reading.specs.Room.{Room}
-use Rattle.answer.specs.Answer.{answer_of, number_of}
+use Rattle.answer.specs.Answer.{number_of}
 use Rattle.answer_c.specs.Numbers.{laid_of}
 use Rattle.eac3.specs.Called.{answered}
 use Rattle.mastering.specs.SetWord.{answer_set, bytes_set, room_set}
