@@ -55,7 +55,7 @@ def constant(name):
 
 
 def identifier(name):
-    return name.replace("[", "-").replace("]", "").replace("_", "-")
+    return name.replace("[", "_").replace("]", "")
 
 
 MADE = "Made by tools/names.py."
@@ -81,8 +81,7 @@ def spellings(names):
 def definitions(names):
     out = [
         f"-- The names of records: their numbers, and their spellings in byte order. {MADE}",
-        "use mathlib.Core.List.{List, [], _∷_}",
-        "use Rattle.std.specs.Prelude.{ℕ}",
+        "use Rattle.std.specs.Prelude.{List, [], ◌∷◌, ℕ}",
         "use Prim.Native.String.{String}",
         "",
         "-- a name's number and its spelling",
@@ -90,8 +89,8 @@ def definitions(names):
         "  pub number : ℕ",
         "  pub spelling : String",
         "",
-        "infix 70 _named_",
-        "abbrev pub _named_ : ℕ → String → Name",
+        "infix 70 ◌named◌",
+        "abbrev pub ◌named◌ : ℕ → String → Name",
         "n named s = record { number = n; spelling = s }",
     ]
     for i, name in enumerate(names):
