@@ -1,17 +1,14 @@
 -- Numbers and factors written one after the other. Assumes nothing.
-use mathlib.Core.Path.{◌≡◌, refl, ap, ◌∙◌}
+use mathlib.Core.Path.{◌≡◌, ap, ◌∙◌}
 use mathlib.Core.List.{List}
 use Prim.Native.Nat.{ℕ}
 use lib.Ieee.{Float}
-use Rattle.reading.specs.Room.{Room, size, cut}
-use Rattle.reading.specs.Frame.{parse}
-use Rattle.annex.specs.Frame.{eac3}
+use Rattle.reading.specs.Room.{Room}
 use Rattle.answer.specs.Answer.{answer_of, number_of, place_of, count_of}
 use Rattle.answer.specs.declared.Answer.{Answer}
-use Rattle.gain.specs.Gains.{gains_of}
 use Rattle.gain.specs.declared.Gains.{Gains}
 use Rattle.eac3.specs.Called.{answered}
-use Rattle.gain_range.specs.GainRange.{sent, GainsRead}
+use Rattle.gain_range.specs.GainRange.{GainsRead}
 use Rattle.gain_range.specs.declared.FrameGains.{FrameGains}
 use Rattle.gain_c.specs.Numbers.{sent_laid, first_laid, numbers_laid, pair_laid, factors_laid, GainsGiven}
 
