@@ -5,10 +5,10 @@
 // has: no frame is longer, and what follows a frame is not looked at, so each position gets the answer that it has in the whole.
 #![tactic(auto)]
 
-ghost use Rattle.std.specs.Prelude.{◌≡◌, ◌-◌, ◌≤◌, IfOk, min, length};
+ghost use Rattle.std.specs.Prelude.{◌≡◌, ◌-◌, ◌≤◌, IfErr, IfOk, drop, min, length, take};
 ghost use Rattle.ingest.specs.Ingest.{empty};
 ghost use Rattle.search.specs.Find.{found_in};
-ghost use Rattle.frames.specs.Held.{allowance_of, next_in, Shifted};
+ghost use Rattle.frames.specs.Held.{allowance_of, next_in, rest_of, Shifted};
 
 use answer::{Frame, Verdict};
 use frame_line::{Text, frame_line, heading, last_line, stretch_line};
@@ -101,7 +101,8 @@ fn shift(bytes: &mut [u8], first: usize, size: usize) -> usize
 
 // Holds the bytes from one on, and as many more of the capture as there is room for.
 fn refill(rt: &HostRuntime, bytes: &mut [u8], first: usize, size: usize) -> Result<usize>
-    ensures { IfOk result (λ n. Shifted bytes.old first size bytes.new n) }
+    ensures ok { IfOk result (λ n. Shifted bytes.old first size bytes.new n) }
+    ensures err { IfErr result (λ _. take (rest_of bytes.old first size) bytes.new ≡ take (rest_of bytes.old first size) (drop first bytes.old)) }
 {
     let n = shift(bytes, first, size);
     let more = print::read_full(&mut rt.stdin(), &mut bytes[n..])?;
