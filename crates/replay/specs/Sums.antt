@@ -1,5 +1,5 @@
 -- The sum over the records of a frame that a list of answers holds: two sums modulo 65521, to which each part of a record is added in turn.
-use Rattle.std.specs.Prelude.{ℕ, zero, suc, ◌+◌, ◌/◌, ◌%◌, List, ℤ, pos, negsuc, slice_index, slice_index_or}
+use Rattle.std.specs.Prelude.{ℕ, zero, suc, ◌+◌, ◌/◌, ◌%◌, ℤ, pos, negsuc, slice_index, slice_index_or}
 use Rattle.reading.specs.Room.{Room, room}
 use Rattle.listing.specs.declared.Records.{Records}
 use Rattle.replay.specs.declared.sums.Sum.{Sum}

@@ -1,4 +1,4 @@
-use Rattle.std.proofs.Common.{◌≡◌, ◌-◌, refl, ap, ◌∙◌, arith}
+use Rattle.std.proofs.Common.{◌≡◌, refl, ap, ◌∙◌, arith}
 use Rattle.replay.specs.Cases.{agrees_of}
 use Rattle.replay.proofs.SumLaws.{more}
 use Rattle.replay.proofs.cases.agrees.Goals as goal

@@ -1,4 +1,4 @@
-use Rattle.std.proofs.Common.{◌≡◌, ◌-◌, refl, ap, ◌∙◌, arith}
+use Rattle.std.proofs.Common.{◌≡◌, refl, ap, ◌∙◌, arith}
 use Rattle.replay.specs.Sums.{room_of, sum_of}
 use Rattle.replay.proofs.SumLaws.{next}
 use Rattle.replay.proofs.sums.summed.Goals as goal
