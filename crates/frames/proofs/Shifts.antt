@@ -1,5 +1,5 @@
 -- Laws of bytes that are moved to the front. Assumes nothing.
-use Rattle.std.proofs.Common.{◌≡◌, ℕ, zero, suc, ◌+◌, ◌-◌, ◌<◌, ◌≤◌, min, List, ◌++◌, length, get_or, take, drop, set, sym, refl, ap, ◌∙◌, add-one, arith, length-drop, length-take, get_or-drop, take-take}
+use Rattle.std.proofs.Common.{◌≡◌, ℕ, ◌+◌, ◌-◌, ◌<◌, ◌≤◌, min, List, ◌++◌, length, get_or, take, drop, set, sym, ap, ◌∙◌, add-one, arith, length-drop, length-take, get_or-drop, take-take}
 use lib.Seq.{paste, paste-suc, drop-paste, take-paste, take-append-le}
 use Rattle.frames.specs.Held.{rest_of, Shifted}
 

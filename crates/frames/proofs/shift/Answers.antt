@@ -1,4 +1,4 @@
-use Rattle.std.proofs.Common.{◌-◌, drop, refl, arith, length-set}
+use Rattle.std.proofs.Common.{drop, refl, arith, length-set}
 use lib.Seq.{paste-zero}
 use Rattle.frames.proofs.Shifts.{moved, all_moved}
 use Rattle.frames.proofs.shift.Goals as goal
