@@ -1,14 +1,21 @@
 -- What the reads of the cursor tell, in the terms of the definitions of crate `reading`.
-use Rattle.std.specs.Prelude.{List, [], ℕ, ◌-◌}
+use Rattle.std.specs.Prelude.{List, [], ℕ, ◌-◌, Ok, Err}
+use Rattle.refusals.specs.Refusals.{number_of}
 use Rattle.reading.specs.Tree.{Part, stop, take, done, read, span}
-use Rattle.reading.specs.Run.{field_of, Outcome, out, skim}
-use Rattle.reading.specs.Room.{Room, Out, exec}
-use Rattle.syntax.specs.Records.{result_of, keep_of}
-use Rattle.syntax.specs.declared.Cursor.{Cursor}
+use Rattle.reading.specs.Run.{accepted, refused, field_of, Outcome, out, skim}
+use Rattle.reading.specs.Room.{Room, Out, got, exec}
+use Rattle.syntax.specs.Records.{keep_of}
+use Rattle.reads.specs.Taking.{Taking}
 
--- a cursor, with bits that were read inside a span, which make no record
-abbrev pub seen : {A : Type 0} → Cursor → A → Outcome A
-seen c a = out (result_of c a) c.at.0 []
+-- what was read, and the room then
+abbrev pub taking : Taking → Room → Out ℕ
+taking (Ok t) m = got (accepted t.value) t.cursor.at.0 t.cursor.count m
+taking (Err e) m = got (refused (number_of e.refusal)) e.at.0 e.count m
+
+-- bits that were read inside a span, which make no record
+abbrev pub seen : Taking → Outcome ℕ
+seen (Ok t) = out (accepted t.value) t.cursor.at.0 []
+seen (Err e) = out (refused (number_of e.refusal)) e.at.0 []
 
 -- the four operations at the place p, with n records in the room m
 module _ (s : List ℕ) (limit : ℕ) where

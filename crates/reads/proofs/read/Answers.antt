@@ -1,13 +1,14 @@
--- 8 comes before the record; what does not pass the limit is the bits that the definition reads, and is given where there is room.
-use Rattle.syntax.proofs.Recording.{signed}
-use Rattle.reads.proofs.Limits.{read_past, read-in}
+-- The limit comes before the record; what does not pass it is the bits that the definition reads.
+use mathlib.Core.Path.{◌∙◌}
+use Rattle.syntax.proofs.Returned.{returned}
+use Rattle.reads.proofs.Limits.{read-past, read-in}
 use Rattle.reads.proofs.read.Goals as goal
 
-pub returns-then-past : goal.returns-then-past
-returns-then-past c = read_past _ _ _ _ _ _ c.past.ensures.0 _ c.if-past.true c.halted.ensures _ _
+pub returns-then-past-clause-read : goal.returns-then-past-clause-read
+returns-then-past-clause-read c = rw c.stop.ensures (read-past _ _ _ _ _ c.past.ensures.0 c.if-past.true _ _ _)
 
-pub overflow_add-next : goal.overflow_add-next
-overflow_add-next c = record { fits = c.past.ensures.1 c.if-past.false }
+pub returns-in_err-cursor-clause-read : goal.returns-in_err-cursor-clause-read
+returns-in_err-cursor-clause-read c = rw (returned _ _ c.from_residual.ensures.1) (c.in_err-cursor.ensures.kept ∙ read-in _ _ _ _ _ c.past.ensures.0 c.if-past.false c.requires.0 c.requires.1 _ c.get-value.ensures _ _ _)
 
-pub returns : goal.returns
-returns c = read-in _ _ _ _ _ _ c.past.ensures.0 c.keep-c.result c.if-past.false c.requires.0 c.requires.1 _ c.get-value.ensures _ _ _ _ (signed c.ranges.block c.ranges.index _ _ _ _) c.keep-c.ensures _ c.given.ensures
+pub returns-clause-read : goal.returns-clause-read
+returns-clause-read c = c.in_ok-cursor.ensures.kept ∙ read-in _ _ _ _ _ c.past.ensures.0 c.if-past.false c.requires.0 c.requires.1 _ c.get-value.ensures _ _ _
