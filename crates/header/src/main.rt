@@ -6,102 +6,49 @@ ghost use Rattle.std.specs.Prelude.{◌≡◌, ◌*◌, ◌≤◌, length};
 ghost use Rattle.names.specs.Spelling.{rows};
 
 use bits::{BitPlace, ByteCount};
-use lent::Label;
+use lent::Reader;
 use names::numbers;
 use print::number;
 use std::io::Result;
-use syntax::Cursor;
+use syntax::room::RecordRoom;
+use syntax::{Cursor, Label};
 
 // The elements of a header with fscod 0 to 2 (A/52 table E1.2): the name and the width of each.
-fn name(i: usize) -> u8 {
-    match i {
-        0 => numbers::SYNCWORD,
-        1 => numbers::STRMTYP,
-        2 => numbers::SUBSTREAMID,
-        3 => numbers::FRMSIZ,
-        4 => numbers::FSCOD,
-        5 => numbers::NUMBLKSCOD,
-        6 => numbers::ACMOD,
-        7 => numbers::LFEON,
-        _ => numbers::BSID,
-    }
-}
-
-fn width(i: usize) -> u16
-    ensures { result ≤ 32 }
+fn element(i: usize) -> (u8, u16)
+    ensures { result.1 ≤ 32 }
 {
     match i {
-        0 => 16,
-        1 => 2,
-        2 => 3,
-        3 => 11,
-        4 => 2,
-        5 => 2,
-        6 => 3,
-        7 => 1,
-        _ => 5,
+        0 => (numbers::SYNCWORD, 16),
+        1 => (numbers::STRMTYP, 2),
+        2 => (numbers::SUBSTREAMID, 3),
+        3 => (numbers::FRMSIZ, 11),
+        4 => (numbers::FSCOD, 2),
+        5 => (numbers::NUMBLKSCOD, 2),
+        6 => (numbers::ACMOD, 3),
+        7 => (numbers::LFEON, 1),
+        _ => (numbers::BSID, 5),
     }
 }
 
-// The element i, unless the reading has stopped.
-fn next(
-    src: &[u8],
-    names: &mut [u8],
-    blocks: &mut [i8],
-    indexes: &mut [i16],
-    firsts: &mut [u16],
-    widths: &mut [u16],
-    values: &mut [u32],
-    cur: Cursor,
-    limit: BitPlace,
-    i: usize,
-) -> Cursor
+// Reads the header into the room, as far as the limit lets it, and says how many records it has.
+fn header(src: &[u8], room: &mut RecordRoom<'_>, limit: BitPlace) -> usize
     requires { limit.0 ≤ 8 * length src.now }
 {
-    if cur.stopped {
-        return cur;
-    }
-    let label = Label {
-        name: name(i),
-        block: -1,
-        index: -1,
+    let mut cur = Cursor {
+        at: BitPlace(0),
+        count: 0,
     };
-    let taken = lent::element(
-        src,
-        cur.at,
-        names,
-        blocks,
-        indexes,
-        firsts,
-        widths,
-        values,
-        cur.count,
-        limit,
-        label,
-        width(i),
-    );
-    taken.cursor
-}
-
-fn header(
-    src: &[u8],
-    names: &mut [u8],
-    blocks: &mut [i8],
-    indexes: &mut [i16],
-    firsts: &mut [u16],
-    widths: &mut [u16],
-    values: &mut [u32],
-    limit: BitPlace,
-) -> usize
-    requires { limit.0 ≤ 8 * length src.now }
-{
-    let mut cur = syntax::going(BitPlace(0), 0);
-    let mut i = 0;
-    while i < 9 {
-        cur = next(
-            src, names, blocks, indexes, firsts, widths, values, cur, limit, i,
-        );
-        i += 1;
+    for i in 0..9 {
+        let (name, width) = element(i);
+        let label = Label {
+            name,
+            block: -1,
+            index: -1,
+        };
+        match Reader::over(src, cur.at).read(room, cur.count, limit, label, width) {
+            Ok(taken) => cur = taken.cursor,
+            Err(stopped) => return stopped.count,
+        }
     }
     cur.count
 }
@@ -145,12 +92,8 @@ fn lines(
 ) -> Result<()>
     requires { table.now ≡ rows }
 {
-    let mut i = 0;
-    while i < 9 {
-        if i < count {
-            line(rt, table, firsts[i], widths[i], names[i], values[i])?;
-        }
-        i += 1;
+    for i in 0..count.min(9) {
+        line(rt, table, firsts[i], widths[i], names[i], values[i])?;
     }
     Ok(())
 }
@@ -164,16 +107,15 @@ fn main(rt: HostRuntime) -> Result<()> {
     let mut firsts = [0u16; 9];
     let mut widths = [0u16; 9];
     let mut values = [0u32; 9];
-    let count = header(
-        &bytes[..n],
+    let mut room = RecordRoom::new(
         &mut names,
         &mut blocks,
         &mut indexes,
         &mut firsts,
         &mut widths,
         &mut values,
-        end(n),
     );
+    let count = header(&bytes[..n], &mut room, end(n));
     let table = names::table();
     lines(&rt, &table, count, firsts, widths, names, values)
 }

@@ -36,8 +36,8 @@ use denote.Triple.Clauses.{Ended, Clauses, Lasts, at_exit, lasts, closing}
 use denote.Triple.Walked.{Stay, Stays, AllGo, fits_of, has_of, walk_of, ends_at}
 use Rattle.bits.specs.contracts.BitPlace as P
 use Rattle.bits.proofs.BitPlace.TheLaws as P'
-use Rattle.lent.specs.contracts.Label as N
-use Rattle.lent.proofs.Label.TheLaws as N'
+use Rattle.syntax.specs.contracts.Label as N
+use Rattle.syntax.proofs.Label.TheLaws as N'
 use Rattle.lent.specs.declared.Reader.{Reader}
 use Rattle.lent.specs.contracts.Reader as T
 use Rattle.lent.proofs.Reader.TheLaws as T'
