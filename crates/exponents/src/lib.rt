@@ -105,6 +105,7 @@ fn spread(exps: &mut [u8; 1792], slot: u8, bin: u32, size: u32, e: u8)
 }
 
 // One exponent for N bins that the slot has.
+// Stays: beside `spread`, whose test of each bin takes a tenth more time a group.
 fn spread_in<const N: usize>(exps: &mut [u8; 1792], slot: u8, bin: u32, e: u8)
     requires { (length exps.old ≡ 1792) × (slot < 7) × (bin + N ≤ 256) }
     ensures { exps.new ≡ spread_of exps.old slot bin N e }
