@@ -1,17 +1,17 @@
 -- Results as one number each, for a driver outside.
-use Rattle.std.specs.Prelude.{◌≡◌, List, ℕ, ◌+◌, ◌*◌}
+use Rattle.std.specs.Prelude.{Ok, Err, ◌≡◌, List, ℕ, ◌+◌, ◌*◌}
 use Rattle.reading.specs.Run.{Outcome}
 use Rattle.mantissas.specs.Outcomes.{groups_outcome}
 use Rattle.hybrid.specs.Outcomes.{slot_outcome}
-use Rattle.exponents.specs.declared.Group.{Group}
-use Rattle.exponents.specs.declared.Group.TheVariants.{Refused, Moved}
+use Rattle.refusals.specs.Refusals.{number_of}
+use Rattle.exponents.specs.Exponents.{Group}
 use Rattle.mantissas.specs.declared.Groups.{Groups}
 use Rattle.mantissas.specs.declared.Passed.{Passed}
 use Rattle.hybrid.specs.declared.Transformed.{Transformed}
 
 abbrev pub packed_group : Group → ℕ
-packed_group (Refused n) = 16777216 * n
-packed_group (Moved a b c) = a + 256 * b + 65536 * c
+packed_group (Err r) = 16777216 * number_of r
+packed_group (Ok (a, b, c)) = a + 256 * b + 65536 * c
 
 -- the number of the refusal or 0, the place, and three counts
 abbrev pub packed : ℕ → ℕ → ℕ → ℕ → ℕ → ℕ
