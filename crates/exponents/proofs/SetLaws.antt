@@ -12,11 +12,13 @@ use borrow.Author.Tests.{le-leb, lt-leb, ltb-true}
 use Rattle.bits.specs.Bits.{bits_at}
 use Rattle.reading.specs.Tree.{Part, Tree}
 use Rattle.reading.specs.Run.{field_of, accepted, refused, Outcome, out, cons, run, element}
-use Rattle.reading.specs.Room.{Room, room, pushed, Out, exec}
-use Rattle.syntax.specs.Rooms.{Fills, Same}
-use Rattle.syntax.specs.Records.{part, outcome, going_at, halted_at}
+use Rattle.reading.specs.Room.{Room, Out, got, exec}
+use Rattle.reading.proofs.Rooms.{◌then◌}
+use Rattle.syntax.specs.Cursors.{Progress}
+use Rattle.syntax.specs.Records.{outcome, keep_of}
 use Rattle.syntax.specs.declared.Cursor.{Cursor}
-use Rattle.syntax.proofs.Rooms.{same_refl, same-trans, same-fills}
+use Rattle.syntax.specs.declared.Stopped.{Stopped}
+use Rattle.syntax.proofs.Recording.{keep-then, on, off}
 use Rattle.std.specs.Prelude.{Ok, Err}
 use Rattle.refusals.specs.Refusals.{number_of}
 use Rattle.refusals.specs.declared.Refusal.{Refusal}
@@ -113,130 +115,111 @@ module _ (s : List ℕ) (l : ℕ) (q : Part) (slot size : ℕ) where
   abbrev pub rest : ℕ → ℕ → ℕ → List ℕ → ℕ → ℕ → Room → Out (List ℕ)
   rest left bin prev exps p n m = exec s l (groups_from q slot size left bin prev exps) p n m
 
-  module _ (left bin prev : ℕ) (exps : List ℕ) (p n : ℕ) (m : Room) (c : Cursor) where
-    pub group-none : left ≤ 0 → c ≡ going_at p n → outcome c exps m ≡ rest left bin prev exps p n m
+  module _ (left bin prev : ℕ) (exps : List ℕ) (p n : ℕ) (m : Room) where
+    pub group-none : left ≤ 0 → got (accepted exps) p n m ≡ rest left bin prev exps p n m
     unfolding exec groups_from
-    group-none h e = let z : left ≡ 0 = omega arith in rw (z, e)
+    group-none h = let z : left ≡ 0 = omega arith in rw z
 
     module _ (some : 0 < left) where
       one_more : left ≡ suc (left - 1)
       one_more = omega arith
 
-      pub group-past : l < p + 7 → c ≡ halted_at p n 8 → (x : List ℕ) → outcome c x m ≡ rest left bin prev exps p n m
+      pub group-past : l < p + 7 → got (refused 8) p n m ≡ rest left bin prev exps p n m
       unfolding exec groups_from
-      group-past h e x = rw (one_more, e, lt-leb (p + 7) l h)
+      group-past h = rw (one_more, lt-leb (p + 7) l h)
 
-      module _ (within : p + 7 ≤ l) (most : ℕ) (fills : Fills most m) where
-        pub group-full : most ≤ n → c ≡ halted_at p n 33 → (x : List ℕ) → outcome c x m ≡ rest left bin prev exps p n m
+      -- a group that was read, and recorded or not
+      module _ (within : p + 7 ≤ l) (v : ℕ) (ev : v ≡ bits_at s p 7) (r : Progress) (m' : Room) (er : outcome r v m' ≡ keep_of (field_of q p 7 v) (p + 7) n m) where
+        abbrev after : ℕ → ℕ → ℕ → Room → Out (List ℕ)
+        after g p n m = exec s l (on_group (decode_of prev g) (λ x y z. groups_from q slot size (left - 1) (bin + 3 * size) z (laid_of exps slot size bin x y z))) p n m
+
+        recorded : rest left bin prev exps p n m ≡ (outcome r v m' then (λ _ p n m. after v p n m))
         unfolding exec groups_from
-        group-full h e x = rw (one_more, e, le-leb (p + 7) l within, fills.is, le-leb most n h)
+        recorded =
+            let f : rest (suc (left - 1)) bin prev exps p n m ≡ (keep_of (field_of q p 7 v) (p + 7) n m then (λ _ p n m. after v p n m)) =
+            rw (le-leb (p + 7) l within, ← ev) (keep-then m n (field_of q p 7 v) (p + 7) (λ p n m. after v p n m)) in
+            ap (λ k. rest k bin prev exps p n m) one_more ∙ f ∙ ap (λ (o : Out ℕ). o then (λ _ p n m. after v p n m)) (sym er)
 
-        module _ (free : n < most) (v : ℕ) (ev : v ≡ bits_at s p 7) (g : Group) (eg : g ≡ decode_of prev v) (m' : Room) (em : m' ≡ pushed m n (field_of q p 7 v)) where
-          pub group-refused : (k : Refusal) → g ≡ Err k → c ≡ halted_at (p + 7) (n + 1) (number_of k) → (x : List ℕ) → outcome c x m' ≡ rest left bin prev exps p n m
-          unfolding exec groups_from
-          group-refused k h e x = rw (one_more, e, em, le-leb (p + 7) l within, fills.is, lt-leb most n free, ← ev, ← eg, h)
+        pub group-full : (e : Stopped) → r ≡ Err e → got (refused (number_of e.refusal)) e.at.0 e.count m' ≡ rest left bin prev exps p n m
+        group-full e h = sym (recorded ∙ ap (λ (x : Progress). outcome x v m' then (λ _ p n m. after v p n m)) h ∙ off v m' (λ _ p n m. after v p n m) e)
 
-          pub group-moved : (x y z : ℕ) → g ≡ Ok (x, y, z) → (exps' : List ℕ) → exps' ≡ laid_of exps slot size bin x y z
-              → rest left bin prev exps p n m ≡ rest (left - 1) (bin + 3 * size) z exps' (p + 7) (n + 1) m'
-          unfolding exec groups_from
-          group-moved x y z h exps' eb =
-              let f : rest (suc (left - 1)) bin prev exps p n m ≡ rest (left - 1) (bin + 3 * size) z exps' (p + 7) (n + 1) m' =
-              rw (em, eb, le-leb (p + 7) l within, fills.is, lt-leb most n free, ← ev, ← eg, h) refl in
-              ap (λ k. rest k bin prev exps p n m) one_more ∙ f
+        module _ (c : Cursor) (h : r ≡ Ok c) where
+          kept : rest left bin prev exps p n m ≡ after v c.at.0 c.count m'
+          kept = recorded ∙ ap (λ (x : Progress). outcome x v m' then (λ _ p n m. after v p n m)) h ∙ on v m' (λ _ p n m. after v p n m) c
+
+          pub group-refused : (k : Refusal) → decode_of prev v ≡ Err k → got (refused (number_of k)) c.at.0 c.count m' ≡ rest left bin prev exps p n m
+          unfolding exec
+          group-refused k e = sym (kept ∙ rw e refl)
+
+          pub group-moved : (x y z : ℕ) → decode_of prev v ≡ Ok (x, y, z) → (exps' : List ℕ) → exps' ≡ laid_of exps slot size bin x y z
+              → rest left bin prev exps p n m ≡ rest (left - 1) (bin + 3 * size) z exps' c.at.0 c.count m'
+          group-moved x y z e exps' eb = kept ∙ rw (e, eb) refl
 
 -- how the loop stands: what is left is the whole, and only the slot's exponents were laid
-pub record Standing (s : List ℕ) (l : ℕ) (q : Part) (slot size : ℕ) (o : Out (List ℕ)) (most : ℕ) (old : List ℕ) (first : Room) (left bin prev : ℕ) (exps : List ℕ) (p n : ℕ) (m : Room) : Type 0 where
+pub record Standing (s : List ℕ) (l : ℕ) (q : Part) (slot size : ℕ) (o : Out (List ℕ)) (old : List ℕ) (left bin prev : ℕ) (exps : List ℕ) (p n : ℕ) (m : Room) : Type 0 where
   pub whole : o ≡ rest s l q slot size left bin prev exps p n m
   pub laid : Laid slot old exps
   pub held : Held exps
-  pub same : Same first m
-  pub fills : Fills most m
   pub byte : prev < 256
   pub low : bin + 12 * left ≤ 851955
 
--- a record in the room, part by part
-abbrev kept : Room → ℕ → ℕ → ℤ → ℤ → ℕ → ℕ → Room
-kept m n name b i p v = room (set m.names n name) (set m.blocks n b) (set m.indexes n i) (set m.firsts n p) (set m.widths n 7) (set m.values n v)
-
-kept-is : (m : Room) (n name p v : ℕ) (b i : ℤ) → kept m n name b i p v ≡ pushed m n (field_of (part name b i) p 7 v)
-unfolding pushed
-kept-is m n name p v b i = refl
-
-kept_same : (m : Room) (n name p v : ℕ) (b i : ℤ) → Same m (kept m n name b i p v)
-kept_same m n name p v b i = record {
-  names = length-set m.names n name;
-  blocks = length-set m.blocks n b;
-  indexes = length-set m.indexes n i;
-  firsts = length-set m.firsts n p;
-  widths = length-set m.widths n 7;
-  values = length-set m.values n v;
-}
-
-pub standing-first : (s : List ℕ) (l : ℕ) (q : Part) (slot strategy absexp most : ℕ) (old exps : List ℕ) (left bin prev p n : ℕ) (m : Room) → Fills most m → Held old → absexp ≤ 15 → exps ≡ begun_of slot absexp old → prev ≡ start_of slot absexp → left < 65536 → bin < 65536
-    → Standing s l q slot (size_of strategy) (rest s l q slot (size_of strategy) left bin prev exps p n m) most exps m left bin prev exps p n m
-standing-first s l q slot strategy absexp most old exps left bin prev p n m fills held small e f h k = record {
+pub standing-first : (s : List ℕ) (l : ℕ) (q : Part) (slot strategy absexp : ℕ) (old exps : List ℕ) (left bin prev p n : ℕ) (m : Room) → Held old → absexp ≤ 15 → exps ≡ begun_of slot absexp old → prev ≡ start_of slot absexp → left < 65536 → bin < 65536
+    → Standing s l q slot (size_of strategy) (rest s l q slot (size_of strategy) left bin prev exps p n m) exps left bin prev exps p n m
+standing-first s l q slot strategy absexp old exps left bin prev p n m held small e f h k = record {
   whole = refl;
   laid = laid_none slot exps;
   held = rw e ((laid-begun old slot absexp (omega arith)).held held);
-  same = same_refl m;
-  fills = fills;
   byte = omega (arith, start-low slot absexp small);
   low = omega arith;
 }
 
-module _ {s : List ℕ} {l name : ℕ} {b i : ℤ} {slot size : ℕ} {o : Out (List ℕ)} {most : ℕ} {old : List ℕ} {first : Room} {left bin prev : ℕ} {exps : List ℕ} {p n : ℕ} {m : Room}
-    (at : Standing s l (part name b i) slot size o most old first left bin prev exps p n m) where
-  pub standing-end : left ≤ 0 → (c : Cursor) → c ≡ going_at p n → outcome c exps m ≡ o
-  standing-end h c e = group-none s l (part name b i) slot size left bin prev exps p n m c h e ∙ sym at.whole
+module _ {s : List ℕ} {l : ℕ} {q : Part} {slot size : ℕ} {o : Out (List ℕ)} {old : List ℕ} {left bin prev : ℕ} {exps : List ℕ} {p n : ℕ} {m : Room}
+    (at : Standing s l q slot size o old left bin prev exps p n m) where
+  pub standing-end : left ≤ 0 → got (accepted exps) p n m ≡ o
+  standing-end h = group-none s l q slot size left bin prev exps p n m h ∙ sym at.whole
 
   module _ (some : 0 < left) where
-    pub standing-past : l < p + 7 → (c : Cursor) → c ≡ halted_at p n 8 → outcome c exps m ≡ o
-    standing-past h c e = group-past s l (part name b i) slot size left bin prev exps p n m c some h e exps ∙ sym at.whole
+    pub standing-past : l < p + 7 → got (refused 8) p n m ≡ o
+    standing-past h = group-past s l q slot size left bin prev exps p n m some h ∙ sym at.whole
 
-    module _ (within : p + 7 ≤ l) where
-      pub standing-full : most ≤ n → (c : Cursor) → c ≡ halted_at p n 33 → outcome c exps m ≡ o
-      standing-full h c e = group-full s l (part name b i) slot size left bin prev exps p n m c some within most at.fills h e exps ∙ sym at.whole
+    module _ (within : p + 7 ≤ l) (v : ℕ) (ev : v ≡ bits_at s p 7) (r : Progress) (m' : Room) (er : outcome r v m' ≡ keep_of (field_of q p 7 v) (p + 7) n m) where
+      pub standing-full : (e : Stopped) → r ≡ Err e → got (refused (number_of e.refusal)) e.at.0 e.count m' ≡ o
+      standing-full e h = group-full s l q slot size left bin prev exps p n m some within v ev r m' er e h ∙ sym at.whole
 
-      module _ (free : n < most) (v : ℕ) (ev : v ≡ bits_at s p 7) (g : Group) (eg : g ≡ decode_of prev v) where
-        pub standing-refused : (k : Refusal) → g ≡ Err k → (c : Cursor) → c ≡ halted_at (p + 7) (n + 1) (number_of k) → outcome c exps (kept m n name b i p v) ≡ o
-        standing-refused k h c e =
-            group-refused s l (part name b i) slot size left bin prev exps p n m c some within most at.fills free v ev g eg (kept m n name b i p v) (kept-is m n name p v b i) k h e exps ∙ sym at.whole
+      module _ (c : Cursor) (h : r ≡ Ok c) where
+        pub standing-refused : (k : Refusal) → decode_of prev v ≡ Err k → got (refused (number_of k)) c.at.0 c.count m' ≡ o
+        standing-refused k e = group-refused s l q slot size left bin prev exps p n m some within v ev r m' er c h k e ∙ sym at.whole
 
-        pub standing-moved : (x y z : ℕ) → g ≡ Ok (x, y, z) → (exps' : List ℕ) → exps' ≡ laid_of exps slot size bin x y z → size ≤ 4 → (step : ℕ) → step ≡ 3 * size
-            → Standing s l (part name b i) slot size o most old first (left - 1) (bin + step) z exps' (p + 7) (n + 1) (kept m n name b i p v)
-        standing-moved x y z h exps' eb small step es =
+        pub standing-moved : (x y z : ℕ) → decode_of prev v ≡ Ok (x, y, z) → (exps' : List ℕ) → exps' ≡ laid_of exps slot size bin x y z → size ≤ 4 → (step : ℕ) → step ≡ 3 * size
+            → Standing s l q slot size o old (left - 1) (bin + step) z exps' c.at.0 c.count m'
+        standing-moved x y z e exps' eb small step es =
             record {
-              whole = at.whole ∙ moved;
+              whole =
+                  at.whole ∙ group-moved s l q slot size left bin prev exps p n m some within v ev r m' er c h x y z e exps' eb
+                  ∙ ap (λ k. rest s l q slot size (left - 1) (bin + k) z exps' c.at.0 c.count m') (sym es);
               laid = laid_then at.laid group;
               held = group.held at.held;
-              same = same-trans at.same (kept_same m n name p v b i);
-              fills = same-fills (kept_same m n name p v b i) most at.fills;
               byte = omega (arith, exponents.third);
               low = let k = at.low in omega arith;
             }
           where
             exponents : Low x y z
-            exponents = decode-low x y z prev v (sym eg ∙ h)
+            exponents = decode-low x y z prev v e
 
             group : Laid slot exps exps'
             group = rw eb (laid-group exps slot size bin x y z exponents)
 
-            moved : rest s l (part name b i) slot size left bin prev exps p n m ≡ rest s l (part name b i) slot size (left - 1) (bin + step) z exps' (p + 7) (n + 1) (kept m n name b i p v)
-            moved =
-                group-moved s l (part name b i) slot size left bin prev exps p n m (going_at p n) some within most at.fills free v ev g eg (kept m n name b i p v) (kept-is m n name p v b i) x y z h exps' eb
-                ∙ ap (λ k. rest s l (part name b i) slot size (left - 1) (bin + k) z exps' (p + 7) (n + 1) (kept m n name b i p v)) (sym es)
-
 -- the answer, where the whole set is what stood at the loop's start
-module _ (s : List ℕ) (l name : ℕ) (b b' i i' : ℤ) (eb : b' ≡ b) (ei : i' ≡ i) (slot strategy start end absexp : ℕ) (old : List ℕ) (p n : ℕ) (m : Room) where
+module _ (s : List ℕ) (l : ℕ) (q : Part) (slot strategy start end absexp : ℕ) (old : List ℕ) (p n : ℕ) (m : Room) where
   pub set-read : {left bin prev : ℕ} {begun : List ℕ} → Held old → absexp ≤ 15
       → left ≡ groups_of slot strategy start end → bin ≡ first_of slot start → prev ≡ start_of slot absexp → begun ≡ begun_of slot absexp old
-      → {c : Cursor} {exps : List ℕ} {m' : Room} → Laid slot begun exps → outcome c exps m' ≡ rest s l (part name b' i') slot (size_of strategy) left bin prev begun p n m
-      → SetRead s l (part name b i) slot strategy start end absexp old p n m c exps m'
+      → (r : Progress) {exps : List ℕ} {m' : Room} → Laid slot begun exps → outcome r exps m' ≡ rest s l q slot (size_of strategy) left bin prev begun p n m
+      → SetRead s l q slot strategy start end absexp old p n m r exps m'
   unfolding set_of
-  set-read {left} {bin} {prev} {begun} h k el ef ep eg laid e =
+  set-read {left} {bin} {prev} {begun} h k el ef ep eg r laid e =
       let first : Laid slot old begun = rw eg (laid-begun old slot absexp (omega arith)) in
       record {
-        is = e ∙ rw (el, ef, ep, eg, eb, ei) refl;
+        is = e ∙ rw (el, ef, ep, eg) refl;
         held = laid.held (first.held h);
         laid = laid_then first laid;
       }

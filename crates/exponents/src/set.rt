@@ -1,14 +1,28 @@
 // A set of exponents, read group by group (A/52 clause 7.1.3, TS 102 366 clause 6.1.3).
-ghost use Rattle.std.specs.Prelude.{◌≡◌, ◌≤◌, ◌<◌, length};
-ghost use Rattle.reading.specs.Room.{room};
-ghost use Rattle.syntax.specs.Records.{part};
+ghost use Rattle.std.specs.Prelude.{◌≡◌, length};
+ghost use Rattle.syntax.specs.Records.{part_of};
+ghost use Rattle.syntax.specs.Rooms.{room_of, SameSlices};
 ghost use Rattle.exponents.specs.Set.{begun_of};
 ghost use Rattle.exponents.specs.SetRead.{Ready, SetRead};
 
 use crate::{decode, first_of, group_size, groups, lay, put, start_of};
 use bits::{BitPlace, bits_at, past};
+use refusals::Refusal;
 use slots::CPL;
-use syntax::{Cursor, going, halted};
+use syntax::room::RecordRoom;
+use syntax::{Cursor, Label, Stopped};
+
+// What a set is read with: what its records are called, its slot and strategy, its first bin, the first bin past it, and
+// the absolute exponent.
+#[derive(Clone, Copy)]
+pub struct Set {
+    pub label: Label,
+    pub slot: u8,
+    pub strategy: u8,
+    pub start: u16,
+    pub end: u16,
+    pub absexp: u8,
+}
 
 // Bin 0 of a channel or of LFE has the absolute exponent itself.
 #[tactic(auto, using(std::proofs::lemmas::Bool::Decides::nat_tests), unfolding(crate::specs::Set::begun_of))]
@@ -21,64 +35,39 @@ fn begin(exps: &mut [u8; 1792], slot: u8, absexp: u8)
     }
 }
 
-// The groups of a set: each is read, recorded, decoded and laid. 8 where a group passes the limit, 33 where
-// there is no room for its record; after the record 11 and 27.
+// The groups of a set: each is read, recorded, decoded and laid.
 pub fn read_exponents(
     src: &[u8],
-    names: &mut [u8],
-    blocks: &mut [i8],
-    indexes: &mut [i16],
-    firsts: &mut [u16],
-    widths: &mut [u16],
-    values: &mut [u32],
+    room: &mut RecordRoom<'_>,
     exps: &mut [u8; 1792],
-    at: BitPlace,
-    count: usize,
+    cur: Cursor,
     limit: BitPlace,
-    most: usize,
-    name: u8,
-    block: i8,
-    index: i16,
-    slot: u8,
-    strategy: u8,
-    start: u16,
-    end: u16,
-    absexp: u8,
-) -> Cursor
-    requires { Ready src.now limit.0 most (room names.old blocks.old indexes.old firsts.old widths.old values.old) exps.old absexp }
-    ensures { SetRead src.now limit.0 (part name block index) slot strategy start end absexp exps.old at.0 count (room names.old blocks.old indexes.old firsts.old widths.old values.old)
-        result exps.new (room names.new blocks.new indexes.new firsts.new widths.new values.new) }
+    set: Set,
+) -> Result<Cursor, Stopped>
+    requires { Ready src.now limit.0 exps.old set.absexp }
+    ensures read { SetRead src.now limit.0 (part_of set.label) set.slot set.strategy set.start set.end set.absexp exps.old cur.at.0 cur.count (room_of room.old) result exps.new (room_of room.new) }
+    ensures same { SameSlices room.old room.new }
 {
-    let step = 3 * group_size(strategy);
-    let left = groups(slot, strategy, start, end);
-    let mut bin = u32::from(first_of(slot, start));
-    let mut prev = start_of(slot, absexp);
-    let mut p = at;
-    let mut n = count;
-    begin(exps, slot, absexp);
+    let step = 3 * group_size(set.strategy);
+    let left = groups(set.slot, set.strategy, set.start, set.end);
+    let mut bin = u32::from(first_of(set.slot, set.start));
+    let mut prev = start_of(set.slot, set.absexp);
+    let mut here = cur;
+    begin(exps, set.slot, set.absexp);
     for _ in 0..left {
-        if past(p, 7, limit) {
-            return halted(p, n, 8);
+        if past(here.at, 7, limit) {
+            return Err(here.stop(Refusal::Truncated));
         }
-        if most <= n {
-            return halted(p, n, 33);
-        }
-        let v = bits_at(src, p, 7);
-        names[n] = name;
-        blocks[n] = block;
-        indexes[n] = index;
-        firsts[n] = p.0;
-        widths[n] = 7;
-        values[n] = v;
-        p = BitPlace(p.0 + 7);
-        n += 1;
-        let (a, b, c) = match decode(prev, v) {
+        let value = bits_at(src, here.at, 7);
+        let next = BitPlace(here.at.0 + 7);
+        here = room.keep(here, set.label, 7, value, next)?;
+        let (a, b, c) = match decode(prev, value) {
             Ok(group) => group,
-            Err(refusal) => return halted(p, n, refusal.number()),
+            Err(refusal) => return Err(here.stop(refusal)),
         };
-        lay(exps, slot, strategy, bin, a as u8, b as u8, c as u8);
+        lay(exps, set.slot, set.strategy, bin, a as u8, b as u8, c as u8);
         prev = c;
         bin += step;
     }
-    going(p, n)
+    Ok(here)
 }

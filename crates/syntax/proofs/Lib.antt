@@ -1,2 +1,3 @@
 pub mod Recording
 pub mod Returned
+pub mod Rooms
