@@ -6,20 +6,17 @@ use native.Mathlib.Omega.{arith}
 use Rattle.reading.specs.Run.{Result, accepted, refused}
 use Rattle.reading.specs.Room.{Room}
 use Rattle.syntax.specs.Records.{outcome}
-use Rattle.syntax.specs.declared.Cursor.{Cursor}
+use Rattle.syntax.specs.Cursors.{Progress}
+use Rattle.std.specs.Prelude.{Ok, Err}
 use Rattle.cells.specs.Cells.{State}
 use Rattle.answer.specs.Answer.{answer_by, answer_of, number_of, place_of, count_of, number_in}
 use Rattle.answer.specs.Cursors.{answer_from}
 
--- the answer of a cursor is that of its outcome
-pub answer-from : (c : Cursor) (st : State) (m : Room) → answer_from c st.cells ≡ answer_of (outcome c st m)
+-- the answer of a reading is that of its outcome
+pub answer-from : (r : Progress) (st : State) (m : Room) → answer_from r st.cells ≡ answer_of (outcome r st m)
 unfolding answer_of
-answer-from c st m = go c.stopped
-  where
-    go : (b : Bool) → cond b (answer_by (refused c.number) c.at.0 c.count) (answer_by (accepted st) c.at.0 c.count)
-        ≡ answer_by (cond b (refused c.number) (accepted st)) c.at.0 c.count
-    go true = refl
-    go false = refl
+answer-from (Ok c) st m = refl
+answer-from (Err e) st m = refl
 
 -- number, place and count of an outcome's answer
 pub number_by : (r : Result State) (p n : ℕ) → number_of (answer_by r p n) ≡ number_in r

@@ -10,7 +10,7 @@ use cells::{cell_of, numbers as c};
 use sideinfo::flags::{flag, flags};
 use sideinfo::shapes::values;
 use std::array;
-use syntax::Cursor;
+use syntax::{Cursor, Stopped};
 
 // An accepted frame, or the refusal's number, its bit place, and the records that were written.
 #[derive(Clone, Copy)]
@@ -119,12 +119,11 @@ fn frame_of(cells: &[u16; 1024], at: BitPlace, count: usize) -> Frame
 }
 
 // The answer of a reading that was stopped. Its frame is written out here: one that a function returns would be copied.
-pub fn refusal(cur: Cursor) -> Answer
-    ensures { result ≡ refusal_from cur }
+pub fn refusal(stopped: Stopped) -> Answer
+    ensures { result ≡ refusal_from stopped }
 {
-    let at = cur.at;
     Answer {
-        verdict: Verdict::Refused(cur.number, at, cur.count),
+        verdict: Verdict::Refused(stopped.refusal.number(), stopped.at, stopped.count),
         frame: Frame {
             bytes: ByteCount(0),
             fields: 0,
@@ -148,15 +147,15 @@ pub fn refusal(cur: Cursor) -> Answer
 }
 
 // The answer of a reading that has come to its end, or was stopped.
-pub fn answer_of(cur: Cursor, cells: &[u16; 1024]) -> Answer
-    ensures { result ≡ answer_from cur cells.now }
+pub fn answer_of(read: Result<Cursor, Stopped>, cells: &[u16; 1024]) -> Answer
+    ensures { result ≡ answer_from read cells.now }
 {
-    if cur.stopped {
-        return refusal(cur);
-    }
-    Answer {
-        verdict: Verdict::Accepted,
-        frame: frame_of(cells, cur.at, cur.count),
+    match read {
+        Ok(cur) => Answer {
+            verdict: Verdict::Accepted,
+            frame: frame_of(cells, cur.at, cur.count),
+        },
+        Err(stopped) => refusal(stopped),
     }
 }
 

@@ -15,15 +15,23 @@ use Rattle.reading.specs.Frame.{plain, header_by, seen}
 use Rattle.reading.specs.Room.{Room, size, pushed, Out, got, record_in, exec}
 use Rattle.reading.proofs.Heads.{barrier, barred}
 use Rattle.reading.proofs.Rooms.{go_on, ◌then◌}
-use Rattle.syntax.specs.Records.{outcome, going_at, halted_at, keep_of}
+use Rattle.std.specs.Prelude.{Ok, Err, is_ok}
+use Rattle.refusals.specs.Refusals.{number_of}
+use Rattle.refusals.specs.declared.Refusal.{Refusal}
+use Rattle.refusals.specs.declared.Refusal.TheVariants.{ShortSlice}
+use Rattle.syntax.specs.Cursors.{Progress}
+use Rattle.syntax.specs.Records.{outcome, keep_of}
 use Rattle.syntax.specs.declared.Cursor.{Cursor}
+use Rattle.syntax.specs.declared.Stopped.{Stopped}
+use Rattle.syntax.proofs.Recording.{keep-then, on, off}
+use native.Mathlib.Decide.{ℕ_discrete}
 use Rattle.names.specs.Names.{syncword}
 use Rattle.slots.proofs.Tests.{both}
 use Rattle.cells.specs.Cells.{State, Addr, Sum, cell_of, put_in, stored, place_of, part_of}
 use Rattle.rows.specs.Syntax.{Cond, holds_of, end, ◌⨾◌, element, reject, item, meaning}
 use Rattle.annex.specs.Syncinfo.{syncinfo}
 use Rattle.annex.specs.Frame.{start, eac3}
-use Rattle.opening.specs.Opened.{stopped_by, Begun, Opened}
+use Rattle.opening.specs.Opened.{Begun, Opened}
 
 -- a record at the count n, and then the refusal k at the place next
 abbrev refused_after : Field → ℕ → ℕ → ℕ → Room → Out State
@@ -42,31 +50,19 @@ module _ (s : List ℕ) (l name : ℕ) (i : Sum) (w : ℕ) (a : Addr) (c : Cond)
   unfolding exec meaning item ◌>>=◌
   element-kept e = rw (le-leb _ _ h, e) refl
 
--- a cursor that is stopped after a record, unless there was no room
-stopped-is : (k p : ℕ) (c : Cursor) → (stopped_by k p c).stopped ≡ true
-stopped-is k p c = go c.stopped refl
-  where
-    go : (b : Bool) → c.stopped ≡ b → (cond b c (halted_at p c.count k)).stopped ≡ true
-    go true e = e
-    go false e = refl
+-- the refusal k after a record that is in the room or found none
+module _ (f : Field) (k place next n : ℕ) (m : Room) (r : Progress) (mu : Room) (st : State) (e : outcome r f.value mu ≡ keep_of f next n m) where
+  refuses : ℕ → ℕ → Room → Out State
+  refuses p i r = got (refused k) place i r
 
-stopped-after : (f : Field) (k place next n : ℕ) (m : Room) (c : Cursor) (mu : Room) (st : State) → outcome c f.value mu ≡ keep_of f next n m
-    → outcome (stopped_by k place c) st mu ≡ refused_after f k place n m
-unfolding go_on
-stopped-after f k place next n m c mu st e = stops c.stopped refl ∙ ap (λ (o : Out ℕ). o then refuses) e ∙ keeps (leb (size m) n)
-  where
-    refuses : ℕ → ℕ → ℕ → Room → Out State
-    refuses a p i r = got (refused k) place i r
+  after : refused_after f k place n m ≡ (outcome r f.value mu then (λ _ p i r. refuses p i r))
+  after = keep-then m n f next refuses ∙ ap (λ (o : Out ℕ). o then (λ _ p i r. refuses p i r)) (sym e)
 
-    stops : (b : Bool) → c.stopped ≡ b
-        → outcome (cond b c (halted_at place c.count k)) st mu ≡ go_on (cond b (refused c.number) (accepted f.value)) c.at.0 c.count mu refuses
-    stops true x = rw x refl
-    stops false x = refl
+  refused-kept : (c : Cursor) → r ≡ Ok c → got (refused k) place c.count mu ≡ refused_after f k place n m
+  refused-kept c h = sym (after ∙ ap (λ (x : Progress). outcome x f.value mu then (λ _ p i r. refuses p i r)) h ∙ on f.value mu (λ _ p i r. refuses p i r) c)
 
-    keeps : (b : Bool) → ◌then◌ {A = ℕ} {B = State} (cond b (got (refused 33) f.first n m) (got (accepted f.value) next (n + 1) (pushed m n f))) refuses
-        ≡ cond b (got (refused 33) f.first n m) (got (refused k) place (n + 1) (pushed m n f))
-    keeps true = refl
-    keeps false = refl
+  refused-full : (x : Stopped) → r ≡ Err x → got (refused (number_of x.refusal)) x.at.0 x.count mu ≡ refused_after f k place n m
+  refused-full x h = sym (after ∙ ap (λ (y : Progress). outcome y f.value mu then (λ _ p i r. refuses p i r)) h ∙ off f.value mu (λ _ p i r. refuses p i r) x)
 
 -- the entry's test of the word w and of bsid, with 11 passed and not passed
 pub high-bsid : (w v b : ℕ) → v ≡ b → w ≡ 0x0B77 → 11 ≤ v → leb v 16 ≡ (eqb w 0x0B77 && (leb 11 b && leb b 16))
@@ -103,30 +99,45 @@ module _ (s : List ℕ) (m : Room) (v : ℕ) (ev : v ≡ bits_at s 0 16) where
       rw (barred eac3 (seen eac3 s) bad)
       (element-kept s 48 _ _ _ _ _ _ (barrier eac3) start 0 0 m (omega arith) d ∙ ap (λ x. refused_after (word x) 6 45 0 m) (sym ev))
 
-  -- the ways in which a frame is opened
-  pub opened-refused : (k p : ℕ) → exec s 48 (header_by eac3 (seen eac3 s)) 0 0 m ≡ refused_after (word v) k p 0 m → (c r : Cursor) (mu : Room) → 6 ≤ length s
-      → outcome c v mu ≡ keep_of (word v) 16 0 m → r ≡ stopped_by k p c → Opened s m r mu
-  opened-refused k p q c r mu h e er =
-      let x : r.stopped ≡ true = ap (λ (y : Cursor). y.stopped) er ∙ stopped-is k p c in
-      record {
-        goes = λ y. absurd (true≢false (sym x ∙ y));
-        short = λ y. absurd (let z : ⊥ = omega arith in z);
-        stops = λ _ _. ap (λ (y : Cursor). outcome y start mu) er ∙ stopped-after (word v) k p 16 0 m c mu start e ∙ sym q;
-      }
+  -- a slice whose word is kept, or finds no room, is refused
+  abbrev pub Refuses : Type 0
+  Refuses = (k : ℕ) × (p : ℕ) × (exec s 48 (header_by eac3 (seen eac3 s)) 0 0 m ≡ refused_after (word v) k p 0 m)
 
-pub opened-short : (s : List ℕ) (m : Room) (c : Cursor) → length s < 6 → c ≡ halted_at 0 0 1 → Opened s m c m
-opened-short s m c h e =
-    record {
-      goes = λ y. absurd (true≢false (sym (ap (λ (x : Cursor). x.stopped) e) ∙ y));
-      short = λ _. record { is = e; left = refl };
-      stops = λ _ y. absurd (let z : ⊥ = omega arith in z);
+  pub refuses-one : (g : Bool) → (eac3.look.good (seen eac3 s) ≡ g) → (b : Bool) → b ≡ (eqb v 0x0B77 && g) → b ≡ false → Refuses
+  refuses-one g eg b e h = by (ℕ_discrete v 0x0B77)
+    where
+      by : Dec (v ≡ 0x0B77) → Refuses
+      by (yes y) = (6, (45, bsid-refused y (eg ∙ other-bsid b v g e h y)))
+      by (no n) = (2, (16, word-refused n))
+
+  module _ (mu : Room) (long : 6 ≤ length s) (r : Progress) (e : outcome r v mu ≡ keep_of (word v) 16 0 m) where
+    stops-so : (x : Stopped) → got (refused (number_of x.refusal)) x.at.0 x.count mu ≡ exec s 48 (header_by eac3 (seen eac3 s)) 0 0 m → Opened s m (Err x) mu
+    stops-so x q = record {
+      goes = λ c h. absurd (true≢false (sym (ap is_ok h)));
+      short = λ y. absurd (let z : ⊥ = omega arith in z);
+      stops = λ _ _ _. q;
     }
 
-pub opened-on : (s : List ℕ) (m : Room) (c : Cursor) → Begun s → c ≡ going_at 0 0 → Opened s m c m
-opened-on s m c b e =
+    -- the ways in which a frame is opened
+    pub opened-full : Refuses → (x : Stopped) → r ≡ Err x → Opened s m (Err x) mu
+    opened-full h x q = stops-so x (refused-full (word v) h.0 h.1 16 0 m r mu start e x q ∙ sym h.2)
+
+    pub opened-refused : (k : Refusal) (p : ℕ) → exec s 48 (header_by eac3 (seen eac3 s)) 0 0 m ≡ refused_after (word v) (number_of k) p 0 m → (c : Cursor) → r ≡ Ok c
+        → Opened s m (Err (record { refusal = k; at = record { 0 = p }; count = c.count })) mu
+    opened-refused k p h c q = stops-so (record { refusal = k; at = record { 0 = p }; count = c.count }) (refused-kept (word v) (number_of k) p 16 0 m r mu start e c q ∙ sym h)
+
+pub opened-short : (s : List ℕ) (m : Room) (x : Stopped) → length s < 6 → x ≡ record { refusal = ShortSlice; at = record { 0 = 0 }; count = 0 } → Opened s m (Err x) m
+opened-short s m x h e = record {
+  goes = λ c y. absurd (true≢false (sym (ap is_ok y)));
+  short = λ _. record { is = ap Err e; left = refl };
+  stops = λ _ _ y. absurd (let z : ⊥ = omega arith in z);
+}
+
+pub opened-on : (s : List ℕ) (m : Room) (c : Cursor) → Begun s → Opened s m (Ok c) m
+opened-on s m c b =
     let l : 6 ≤ length s = b.long in
     record {
-      goes = λ _. record { begun = b; left = refl };
+      goes = λ _ _. record { begun = b; left = refl };
       short = λ y. absurd (let z : ⊥ = omega arith in z);
-      stops = λ y _. absurd (true≢false (sym y ∙ ap (λ (x : Cursor). x.stopped) e));
+      stops = λ _ y _. absurd (true≢false (ap is_ok y));
     }

@@ -4,13 +4,15 @@
 
 ghost use Rattle.std.specs.Prelude.{◌≡◌, ◌&&◌, ◌≤◌, eqb, length};
 ghost use Rattle.bits.specs.Bits.{bits_at};
-ghost use Rattle.reading.specs.Room.{room};
+ghost use Rattle.syntax.specs.Rooms.{room_of, SameSlices};
 ghost use Rattle.annex.specs.Frame.{bsid_ahead};
-ghost use Rattle.opening.specs.Opened.{stopped_by, Opened};
+ghost use Rattle.opening.specs.Opened.{Opened};
 
 use bits::{BitPlace, bits_at};
 use names::numbers::SYNCWORD;
-use syntax::{Cursor, going, halted, keep};
+use refusals::Refusal;
+use syntax::room::RecordRoom;
+use syntax::{Cursor, Label, Stopped};
 
 // The word that a frame begins with.
 const SYNC: u32 = 0x0B77;
@@ -24,53 +26,38 @@ fn begins(src: &[u8], word: u32) -> bool
     word == SYNC && (11 <= bsid && bsid <= 16)
 }
 
-// A refusal at a place, unless the cursor is stopped already.
-fn stopped(cur: Cursor, number: u8, at: BitPlace) -> Cursor
-    ensures { result ≡ stopped_by number at.0 cur }
+// Begins a frame. Where the sync word or bsid is refused, the first word is recorded.
+pub fn begin(src: &[u8], room: &mut RecordRoom<'_>) -> Result<Cursor, Stopped>
+    ensures opened { Opened src.now (room_of room.old) result (room_of room.new) }
+    ensures same { SameSlices room.old room.new }
 {
-    if cur.stopped {
-        return cur;
-    }
-    halted(at, cur.count, number)
-}
-
-// Begins a frame: a cursor that goes on, or one that is stopped by 1, 33, 2 or 6. Where the sync word or bsid is refused, the first word is recorded.
-pub fn begin(
-    src: &[u8],
-    names: &mut [u8],
-    blocks: &mut [i8],
-    indexes: &mut [i16],
-    firsts: &mut [u16],
-    widths: &mut [u16],
-    values: &mut [u32],
-) -> Cursor
-    ensures { Opened src.now (room names.old blocks.old indexes.old firsts.old widths.old values.old) result (room names.new blocks.new indexes.new firsts.new widths.new values.new) }
-{
+    let start = Cursor {
+        at: BitPlace(0),
+        count: 0,
+    };
     if src.len() < 6 {
-        return halted(BitPlace(0), 0, 1);
+        return Err(start.stop(Refusal::ShortSlice));
     }
     let word = bits_at(src, BitPlace(0), 16);
     if begins(src, word) {
-        return going(BitPlace(0), 0);
+        return Ok(start);
     }
-    let cur = keep(
-        names,
-        blocks,
-        indexes,
-        firsts,
-        widths,
-        values,
-        0,
-        SYNCWORD,
-        -1,
-        -1,
-        BitPlace(0),
-        16,
-        word,
-        BitPlace(16),
-    );
+    let label = Label {
+        name: SYNCWORD,
+        block: -1,
+        index: -1,
+    };
+    let cur = room.keep(start, label, 16, word, BitPlace(16))?;
     if word == SYNC {
-        return stopped(cur, 6, BitPlace(45));
+        return Err(Stopped {
+            refusal: Refusal::OtherFormat,
+            at: BitPlace(45),
+            count: cur.count,
+        });
     }
-    stopped(cur, 2, BitPlace(16))
+    Err(Stopped {
+        refusal: Refusal::NoSyncWord,
+        at: BitPlace(16),
+        count: cur.count,
+    })
 }

@@ -1,18 +1,25 @@
 use native.Mathlib.Omega.{arith}
+use mathlib.Core.Path.{refl}
 use Rattle.annex.specs.Frame.{eac3}
-use Rattle.opening.proofs.Openings.{good-bsid, other-bsid, word-refused, bsid-refused, opened-short, opened-on, opened-refused}
+use Rattle.syntax.proofs.Returned.{returned}
+use Rattle.opening.proofs.Openings.{good-bsid, other-bsid, word-refused, bsid-refused, refuses-one, opened-short, opened-on, opened-full, opened-refused}
 use Rattle.opening.proofs.begin.Goals as goal
 
-pub returns-then-src-lt6 : goal.returns-then-src-lt6
-returns-then-src-lt6 c = opened-short _ _ c.halted.result (omega arith) c.halted.ensures
+pub returns-then-src-lt6-clause-opened : goal.returns-then-src-lt6-clause-opened
+returns-then-src-lt6-clause-opened c = opened-short _ _ _ (omega arith) c.stop.ensures
 
-pub returns-then-begins : goal.returns-then-begins
+pub returns-then-begins-clause-opened : goal.returns-then-begins-clause-opened
 unfolding eac3
-returns-then-begins c = opened-on _ _ c.going.result (record { long = omega (arith, c.if-src-lt6.false); good = good-bsid _ c.bits_at-word.result _ c.begins.ensures c.if-begins.true }) c.going.ensures
+returns-then-begins-clause-opened c = opened-on _ _ _ (record { long = omega (arith, c.if-src-lt6.false); good = good-bsid _ c.bits_at-word.result _ c.begins.ensures c.if-begins.true })
 
-pub returns-then-word-eq-SYNC : goal.returns-then-word-eq-SYNC
+pub returns-in_err-cur-clause-opened : goal.returns-in_err-cur-clause-opened
 unfolding eac3
-returns-then-word-eq-SYNC c = opened-refused _ _ _ c.bits_at-word.ensures 6 45 (bsid-refused _ _ _ c.bits_at-word.ensures c.if-word-eq-SYNC.true (other-bsid _ _ _ c.begins.ensures c.if-begins.false c.if-word-eq-SYNC.true)) c.keep-cur.result c.stopped.result _ (omega (arith, c.if-src-lt6.false)) c.keep-cur.ensures c.stopped.ensures
+returns-in_err-cur-clause-opened c = rw (returned _ _ c.from_residual.ensures.1) (opened-full _ _ _ c.bits_at-word.ensures _ (omega (arith, c.if-src-lt6.false)) _ c.keep.ensures.kept (refuses-one _ _ _ c.bits_at-word.ensures _ refl _ c.begins.ensures c.if-begins.false) _ c.in_err-cur.was)
 
-pub returns : goal.returns
-returns c = opened-refused _ _ _ c.bits_at-word.ensures 2 16 (word-refused _ _ _ c.bits_at-word.ensures c.if-word-eq-SYNC.false) c.keep-cur.result c.stopped-2.result _ (omega (arith, c.if-src-lt6.false)) c.keep-cur.ensures c.stopped-2.ensures
+pub returns-then-word-eq-SYNC-clause-opened : goal.returns-then-word-eq-SYNC-clause-opened
+unfolding eac3
+returns-then-word-eq-SYNC-clause-opened c = opened-refused _ _ _ c.bits_at-word.ensures _ (omega (arith, c.if-src-lt6.false)) _ c.keep.ensures.kept _ 45 (bsid-refused _ _ _ c.bits_at-word.ensures c.if-word-eq-SYNC.true (other-bsid _ _ _ c.begins.ensures c.if-begins.false c.if-word-eq-SYNC.true)) _ c.in_ok-cur.was
+
+pub returns-clause-opened : goal.returns-clause-opened
+unfolding eac3
+returns-clause-opened c = opened-refused _ _ _ c.bits_at-word.ensures _ (omega (arith, c.if-src-lt6.false)) _ c.keep.ensures.kept _ 16 (word-refused _ _ _ c.bits_at-word.ensures c.if-word-eq-SYNC.false) _ c.in_ok-cur.was
