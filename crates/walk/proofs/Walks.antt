@@ -14,10 +14,11 @@ use Rattle.reading.specs.Run.{accepted, refused}
 use Rattle.reading.specs.Room.{Room, Out, got, exec}
 use Rattle.reading.proofs.Rooms.{go_on, ◌then◌, exec-bind}
 use Rattle.reading.proofs.Trees.{bind_assoc}
-use Rattle.syntax.specs.Records.{outcome, going_at, halted_at}
-use Rattle.syntax.specs.Rooms.{Same}
+use Rattle.std.specs.Prelude.{Ok, Err}
+use Rattle.syntax.specs.Cursors.{Progress}
+use Rattle.syntax.specs.Records.{outcome}
 use Rattle.syntax.specs.declared.Cursor.{Cursor}
-use Rattle.syntax.proofs.Rooms.{same_refl, same-trans, same-fills}
+use Rattle.syntax.specs.declared.Stopped.{Stopped}
 use Rattle.cells.specs.Cells.{State, state, cell_of, put_in, stored}
 use Rattle.slots.specs.Held.{Bins}
 use Rattle.rows.specs.Syntax.{Block, Item, element, elements, span, mantissas, exponents, when, each, reject, reject_at, put, fill, derive, end, ◌⨾◌, count_of, turns, meaning}
@@ -25,7 +26,7 @@ use Rattle.rows.specs.Rows.{flat, to_in, from_in, counter_in, stop_in, skip_of, 
 use Rattle.rows.specs.Steps.{Move, runs, go, deals, loops, dealing, dealt_of, step_of, Dealt, one_in, input_in, set_in}
 use Rattle.rows.specs.Standing.{Stands}
 use Rattle.rows.specs.declared.steps.Loop.{Loop}
-use Rattle.inputs.specs.Reads.{Right, Ready, Takes, Opens, Gathers}
+use Rattle.inputs.specs.Reads.{Right, Wide, Takes, Opens, Gathers}
 use Rattle.walk.specs.Stands.{Stand, Turned}
 use Rattle.walk.proofs.Following.{narrow_at, narrow-width, one-turn, Follows, step-law}
 
@@ -78,17 +79,17 @@ at-end t pc to (i ⨾ r) k h st = absurd (none i r k)
     none (derive j) r k = omega (arith, k.ends)
 
 -- a tree that the code has run, and what follows it
-module _ (s : List ℕ) (l : ℕ) (u : Tree State) (f : State → Tree State) (p q : ℕ) (m : Room) (d : Cursor) (su : State) (mu : Room) (eo : outcome d su mu ≡ exec s l u p q m) where
+module _ (s : List ℕ) (l : ℕ) (u : Tree State) (f : State → Tree State) (p q : ℕ) (m : Room) (d : Progress) (su : State) (mu : Room) (eo : outcome d su mu ≡ exec s l u p q m) where
   after : exec s l (u >>= f) p q m ≡ (outcome d su mu then (λ a p n m. exec s l (f a) p n m))
   after = exec-bind s l u f p q m ∙ ap (λ (o : Out State). o then (λ a p n m. exec s l (f a) p n m)) (sym eo)
 
-  pub ran_on : d.stopped ≡ false → exec s l (u >>= f) p q m ≡ exec s l (f su) d.at.0 d.count mu
+  pub ran_on : (c : Cursor) → d ≡ Ok c → exec s l (u >>= f) p q m ≡ exec s l (f su) c.at.0 c.count mu
   unfolding go_on
-  ran_on e = after ∙ rw e refl
+  ran_on c e = after ∙ rw e refl
 
-  pub ran-off : d.stopped ≡ true → outcome d su mu ≡ exec s l (u >>= f) p q m
+  pub ran-off : (x : Stopped) → d ≡ Err x → outcome (Err x) su mu ≡ exec s l (u >>= f) p q m
   unfolding go_on
-  ran-off e = sym (after ∙ rw e refl)
+  ran-off x e = sym (after ∙ rw e refl)
 
 -- a row of elements or a span is so many turns of what it reads
 input-step : (w p : ℕ) (st : State) → w % 16 < 4 → step_of (row_of w) p st ≡ runs (turns (count_of (to_in w) st.cells - from_in w) (from_in w) (counter_in w) (input_in w) st)
@@ -131,7 +132,6 @@ module _ (t : List ℕ) (pc : ℕ) where
 
 -- the loop over the rows, at pc
 pub record RowsInv (s : List ℕ) (l : ℕ) (t : List ℕ) (from to p₀ q₀ : ℕ) (st₀ : State) (m₀ : Room) (p q : ℕ) (st : State) (m : Room) (mem : List ℕ) (pc left last : ℕ) : Type 0 where
-  pub same : Same m₀ m
   pub past : from ≤ pc
   pub within : pc ≤ to
   pub fewer : left ≤ last
@@ -180,7 +180,6 @@ shorter t from to pc z e h k = omega arith
 module _ (s : List ℕ) (l : ℕ) (t : List ℕ) (from to p₀ q₀ : ℕ) (st₀ : State) (m₀ : Room) where
   pub rows_start : (mem : List ℕ) → Right mem st₀.bins → from ≤ to → (last : ℕ) → RowsInv s l t from to p₀ q₀ st₀ m₀ p₀ q₀ st₀ m₀ mem from 0 last
   rows_start mem h w last = record {
-    same = same_refl m₀;
     past = omega arith;
     within = w;
     fewer = omega arith;
@@ -233,7 +232,6 @@ module _ (s : List ℕ) (l : ℕ) (t : List ℕ) (from to p₀ q₀ : ℕ) (st�
         -- not at all
         pub rows_none : more ≡ 0 → RowsInv s l t from to p₀ q₀ st₀ m₀ p q st m mem (pc + 1) left last'
         rows_none z = let i : left ≡ 0 = idle-none left em z in rw i (record {
-          same = inv.same;
           past = omega (arith, inv.past);
           within = omega arith;
           fewer = omega arith;
@@ -243,7 +241,7 @@ module _ (s : List ℕ) (l : ℕ) (t : List ℕ) (from to p₀ q₀ : ℕ) (st�
         })
 
         -- once, which was done
-        module _ (ne : ¬ (more ≡ 0)) (x : List ℕ) (ex : x ≡ put_in st.cells (counter_in w) (last' - more)) (d : Cursor) (y : List ℕ) (mu : Room) (took : Takes s l w x p q m d y mu) where
+        module _ (ne : ¬ (more ≡ 0)) (x : List ℕ) (ex : x ≡ put_in st.cells (counter_in w) (last' - more)) (d : Progress) (y : List ℕ) (mu : Room) (took : Takes s l w x p q m d y mu) where
           once : (r : Block) → (turns more (last' - more) (counter_in w) (input_in w) st >>= meaning r) ≡ (input_in w (state x st.bins) >>= (λ z. turns (more - 1) (last' - (more - 1)) (counter_in w) (input_in w) z >>= meaning r))
           once r = rw ex (by more refl)
             where
@@ -253,37 +251,35 @@ module _ (s : List ℕ) (l : ℕ) (t : List ℕ) (from to p₀ q₀ : ℕ) (st�
                   let z : n ≡ suc n - 1 = omega arith in
                   turn_one n last' (counter_in w) (input_in w) st (meaning r) (omega (arith, more-fewer)) ∙ ap (λ (v : ℕ). input_in w (stored st (counter_in w) (last' - suc n)) >>= (λ y. turns v (last' - v) (counter_in w) (input_in w) y >>= meaning r)) z
 
-          pub rows-one : d.stopped ≡ false → Same m mu → (left' : ℕ) → left' ≡ more - 1 → (pc' : ℕ) → pc' ≡ cond (eqb left' 0) (pc + 1) pc
-              → RowsInv s l t from to p₀ q₀ st₀ m₀ d.at.0 d.count (state y st.bins) mu mem pc' left' last'
-          rows-one e sm left' el' pc' ep = by left' el' pc' ep
+          pub rows-one : (c : Cursor) → d ≡ Ok c → (left' : ℕ) → left' ≡ more - 1 → (pc' : ℕ) → pc' ≡ cond (eqb left' 0) (pc + 1) pc
+              → RowsInv s l t from to p₀ q₀ st₀ m₀ c.at.0 c.count (state y st.bins) mu mem pc' left' last'
+          rows-one c e left' el' pc' ep = by left' el' pc' ep
             where
-              next : (b : Block) → Stands t b from to → (r : Block) × Stands t r (pc + 1) to × (exec s l (meaning b st₀) p₀ q₀ m₀ ≡ exec s l (turns (more - 1) (last' - (more - 1)) (counter_in w) (input_in w) (state y st.bins) >>= meaning r) d.at.0 d.count mu)
-              next b h = let a = begun b h in (a.0, a.1, a.2 ∙ ap (λ (v : Tree State). exec s l v p q m) (once a.0) ∙ ran_on s l (input_in w (state x st.bins)) (λ z. turns (more - 1) (last' - (more - 1)) (counter_in w) (input_in w) z >>= meaning a.0) p q m d (state y st.bins) mu (took.is st.bins) e)
+              next : (b : Block) → Stands t b from to → (r : Block) × Stands t r (pc + 1) to × (exec s l (meaning b st₀) p₀ q₀ m₀ ≡ exec s l (turns (more - 1) (last' - (more - 1)) (counter_in w) (input_in w) (state y st.bins) >>= meaning r) c.at.0 c.count mu)
+              next b h = let a = begun b h in (a.0, a.1, a.2 ∙ ap (λ (v : Tree State). exec s l v p q m) (once a.0) ∙ ran_on s l (input_in w (state x st.bins)) (λ z. turns (more - 1) (last' - (more - 1)) (counter_in w) (input_in w) z >>= meaning a.0) p q m d (state y st.bins) mu (took.is st.bins) c e)
 
-              by : (n : ℕ) → n ≡ more - 1 → (j : ℕ) → j ≡ cond (eqb n 0) (pc + 1) pc → RowsInv s l t from to p₀ q₀ st₀ m₀ d.at.0 d.count (state y st.bins) mu mem j n last'
+              by : (n : ℕ) → n ≡ more - 1 → (j : ℕ) → j ≡ cond (eqb n 0) (pc + 1) pc → RowsInv s l t from to p₀ q₀ st₀ m₀ c.at.0 c.count (state y st.bins) mu mem j n last'
               by zero en j ej = rw ej (record {
-                same = same-trans inv.same sm;
                 past = omega (arith, inv.past);
                 within = omega arith;
                 fewer = omega arith;
                 reads = λ k. absurd (k refl);
                 right = inv.right;
-                rest = λ b h. let a = next b h in (a.0, a.1, a.2 ∙ ap (λ (v : ℕ). exec s l (turns v (last' - v) (counter_in w) (input_in w) (state y st.bins) >>= meaning a.0) d.at.0 d.count mu) (sym en) ∙ ap (λ (v : Tree State). exec s l v d.at.0 d.count mu) (turn-none (last' - 0) (counter_in w) (input_in w) (state y st.bins) (meaning a.0)));
+                rest = λ b h. let a = next b h in (a.0, a.1, a.2 ∙ ap (λ (v : ℕ). exec s l (turns v (last' - v) (counter_in w) (input_in w) (state y st.bins) >>= meaning a.0) c.at.0 c.count mu) (sym en) ∙ ap (λ (v : Tree State). exec s l v c.at.0 c.count mu) (turn-none (last' - 0) (counter_in w) (input_in w) (state y st.bins) (meaning a.0)));
               })
               by (suc n) en j ej = let ez : j ≡ pc = ej ∙ some n (pc + 1) pc in rw ez (record {
-                same = same-trans inv.same sm;
                 past = inv.past;
                 within = inv.within;
                 fewer = omega (arith, more-fewer);
                 reads = λ _. rw (← ew) kind;
                 right = inv.right;
-                rest = λ b h. let a = next b h in (a.0, a.1, a.2 ∙ ap (λ (v : ℕ). exec s l (turns v (last' - v) (counter_in w) (input_in w) (state y st.bins) >>= meaning a.0) d.at.0 d.count mu) (sym en) ∙ ap (λ (v : ℕ). exec s l (turns (suc n) (last' - suc n) (counter_in v) (input_in v) (state y st.bins) >>= meaning a.0) d.at.0 d.count mu) ew);
+                rest = λ b h. let a = next b h in (a.0, a.1, a.2 ∙ ap (λ (v : ℕ). exec s l (turns v (last' - v) (counter_in w) (input_in w) (state y st.bins) >>= meaning a.0) c.at.0 c.count mu) (sym en) ∙ ap (λ (v : ℕ). exec s l (turns (suc n) (last' - suc n) (counter_in v) (input_in v) (state y st.bins) >>= meaning a.0) c.at.0 c.count mu) ew);
               })
 
-          pub one-off : d.stopped ≡ true → (b : Block) → Stands t b from to → outcome d (state y st.bins) mu ≡ exec s l (meaning b st₀) p₀ q₀ m₀
-          one-off e b h =
+          pub one-off : (v : Stopped) → d ≡ Err v → (b : Block) → Stands t b from to → outcome (Err v) (state y st.bins) mu ≡ exec s l (meaning b st₀) p₀ q₀ m₀
+          one-off v e b h =
               let a = begun b h in
-              ran-off s l (input_in w (state x st.bins)) (λ z. turns (more - 1) (last' - (more - 1)) (counter_in w) (input_in w) z >>= meaning a.0) p q m d (state y st.bins) mu (took.is st.bins) e
+              ran-off s l (input_in w (state x st.bins)) (λ z. turns (more - 1) (last' - (more - 1)) (counter_in w) (input_in w) z >>= meaning a.0) p q m d (state y st.bins) mu (took.is st.bins) v e
               ∙ sym (a.2 ∙ ap (λ (v : Tree State). exec s l v p q m) (once a.0))
 
       -- other rows
@@ -308,11 +304,10 @@ module _ (s : List ℕ) (l : ℕ) (t : List ℕ) (from to p₀ q₀ : ℕ) (st�
           follows b h = subst (λ (x : Move). Follows t to b pc p st x) (ap (λ (x : ℕ). step_of (row_of x) p st) (sym ew) ∙ eo) (step-law t to pc less p st b h)
 
         -- a place where a block stands
-        onto : (p' q' : ℕ) (st' : State) (m' : Room) (mem' : List ℕ) (pc' : ℕ) → Same m m' → Right mem' st'.bins → pc ≤ pc' → pc' ≤ to
+        onto : (p' q' : ℕ) (st' : State) (m' : Room) (mem' : List ℕ) (pc' : ℕ) → Right mem' st'.bins → pc ≤ pc' → pc' ≤ to
             → ((b : Block) → Stands t b from to → (r : Block) × Stands t r pc' to × (exec s l (meaning b st₀) p₀ q₀ m₀ ≡ exec s l (meaning r st') p' q' m'))
             → RowsInv s l t from to p₀ q₀ st₀ m₀ p' q' st' m' mem' pc' left last
-        onto p' q' st' m' mem' pc' sm hr h k f = rw idle (record {
-          same = same-trans inv.same sm;
+        onto p' q' st' m' mem' pc' hr h k f = rw idle (record {
           past = omega (arith, inv.past);
           within = k;
           fewer = omega arith;
@@ -322,18 +317,18 @@ module _ (s : List ℕ) (l : ℕ) (t : List ℕ) (from to p₀ q₀ : ℕ) (st�
         })
 
         -- the mantissas, or a set of exponents
-        module _ (low : w % 16 % 15 < 8) (d : Cursor) (su : State) (mu : Room) (memu : List ℕ) (gathers : Gathers s l w st p q m d su mu memu) where
-          pub rows-gather : d.stopped ≡ false → Same m mu → RowsInv s l t from to p₀ q₀ st₀ m₀ d.at.0 d.count su mu memu (pc + 1) left last
-          rows-gather e sm = onto d.at.0 d.count su mu memu (pc + 1) sm gathers.right (omega arith) (omega arith) (λ b h.
+        module _ (low : w % 16 % 15 < 8) (d : Progress) (su : State) (mu : Room) (memu : List ℕ) (gathers : Gathers s l w st p q m d su mu memu) where
+          pub rows-gather : (c : Cursor) → d ≡ Ok c → RowsInv s l t from to p₀ q₀ st₀ m₀ c.at.0 c.count su mu memu (pc + 1) left last
+          rows-gather c e = onto c.at.0 c.count su mu memu (pc + 1) gathers.right (omega arith) (omega arith) (λ b h.
               let a = rest_at b h in
               let f = follows (runs (inner w st)) (inner-step w p st kind low) a.0 a.1 in
-              (f.0, f.1, a.2 ∙ ap (λ (y : Tree State). exec s l y p q m) f.2 ∙ ran_on s l (inner w st) (meaning f.0) p q m d su mu gathers.is e))
+              (f.0, f.1, a.2 ∙ ap (λ (y : Tree State). exec s l y p q m) f.2 ∙ ran_on s l (inner w st) (meaning f.0) p q m d su mu gathers.is c e))
 
-          pub gather-off : d.stopped ≡ true → (b : Block) → Stands t b from to → outcome d su mu ≡ exec s l (meaning b st₀) p₀ q₀ m₀
-          gather-off e b h =
+          pub gather-off : (v : Stopped) → d ≡ Err v → (b : Block) → Stands t b from to → outcome (Err v) su mu ≡ exec s l (meaning b st₀) p₀ q₀ m₀
+          gather-off v e b h =
               let a = rest_at b h in
               let f = follows (runs (inner w st)) (inner-step w p st kind low) a.0 a.1 in
-              ran-off s l (inner w st) (meaning f.0) p q m d su mu gathers.is e ∙ sym (a.2 ∙ ap (λ (y : Tree State). exec s l y p q m) f.2)
+              ran-off s l (inner w st) (meaning f.0) p q m d su mu gathers.is v e ∙ sym (a.2 ∙ ap (λ (y : Tree State). exec s l y p q m) f.2)
 
         -- a condition
         pub rows-when : w % 16 / 2 ≡ 4 → (k : ℕ) → k ≡ skip_of w st.cells → (b₀ : Block) → Stands t b₀ from to → RowsInv s l t from to p₀ q₀ st₀ m₀ p q st m mem (pc + (1 + k)) left last
@@ -341,7 +336,7 @@ module _ (s : List ℕ) (l : ℕ) (t : List ℕ) (from to p₀ q₀ : ℕ) (st�
         rows-when is k ek b₀ h₀ =
             let e : step_of (row_of w) p st ≡ go k = (rw (le-ltb (w % 16) 3 (omega arith), le-ltb (w % 16) 8 (omega arith), lt-ltb (w % 16) 10 (omega arith)) (ap go (sym ek))) in
             let f = follows (go k) e (rest_at b₀ h₀).0 (rest_at b₀ h₀).1 in
-            onto p q st m mem (pc + (1 + k)) (same_refl m) inv.right (omega arith) (omega (arith, f.1.ends)) (λ b h.
+            onto p q st m mem (pc + (1 + k)) inv.right (omega arith) (omega (arith, f.1.ends)) (λ b h.
             let a = rest_at b h in
             let g = follows (go k) e a.0 a.1 in
             let z : pc + 1 + k ≡ pc + (1 + k) = omega arith in
@@ -351,18 +346,18 @@ module _ (s : List ℕ) (l : ℕ) (t : List ℕ) (from to p₀ q₀ : ℕ) (st�
         module _ (k : ℕ) (su : State) (memu : List ℕ) (dealt : Dealt w p st k su) (hr : Right memu su.bins) where
           pub rows-deal : k ≡ 0 → RowsInv s l t from to p₀ q₀ st₀ m₀ p q su m memu (pc + 1) left last
           unfolding ◌>>=◌
-          rows-deal e = onto p q su m memu (pc + 1) (same_refl m) hr (omega arith) (omega arith) (λ b h.
+          rows-deal e = onto p q su m memu (pc + 1) hr (omega arith) (omega arith) (λ b h.
               let a = rest_at b h in
               let f = follows (deals (dealing k (stop_in w) su)) dealt.is a.0 a.1 in
               (f.0, f.1, a.2 ∙ f.2 s l q m ∙ ap (λ (x : ℕ). exec s l (dealt_of (dealing x (stop_in w) su) p >>= meaning f.0) p q m) e))
 
-          pub deal-off : ¬ (k ≡ 0) → (z : ℕ) → z ≡ p + (cell_of su.cells (stop_in w) - p) → (d : Cursor) → d ≡ halted_at z q k → (b : Block) → Stands t b from to → outcome d su m ≡ exec s l (meaning b st₀) p₀ q₀ m₀
+          pub deal-off : ¬ (k ≡ 0) → (z : ℕ) → z ≡ p + (cell_of su.cells (stop_in w) - p) → (b : Block) → Stands t b from to → got (refused k) z q m ≡ exec s l (meaning b st₀) p₀ q₀ m₀
           unfolding ◌>>=◌ exec
-          deal-off ne z ez d ed b h =
+          deal-off ne z ez b h =
               let a = rest_at b h in
               let f = follows (deals (dealing k (stop_in w) su)) dealt.is a.0 a.1 in
               let x : exec s l (dealt_of (dealing k (stop_in w) su) p >>= meaning f.0) p q m ≡ got (refused k) (p + (cell_of su.cells (stop_in w) - p)) q m = (rw (ne_eqb k 0 ne) refl) in
-              let y : outcome d su m ≡ got (refused k) (p + (cell_of su.cells (stop_in w) - p)) q m = rw (ed, ez) refl in
+              let y : got (refused k) z q m ≡ got (refused k) (p + (cell_of su.cells (stop_in w) - p)) q m = rw ez refl in
               y ∙ sym (a.2 ∙ f.2 s l q m ∙ x)
 
         -- a loop
@@ -379,22 +374,21 @@ module _ (s : List ℕ) (l : ℕ) (t : List ℕ) (from to p₀ q₀ : ℕ) (st�
           pub loop-within : (b : Block) → Stands t b from to → pc + 1 + x.rows ≤ to
           loop-within b h = omega (arith, (looped b h).3.ends)
 
-          pub loop-stand : (most : ℕ) (m₁ : Room) (bins₁ : Bins) (mem₁ : List ℕ) → Stand s l t bins₁ mem₁ most m₁ from to → Same m₁ m → Stand s l t st.bins mem most m (pc + 1) (pc + 1 + x.rows)
-          loop-stand most m₁ bins₁ mem₁ h sm =
-              record { what = (looped h.what h.stands).0; stands = (looped h.what h.stands).2; table = h.table; within = h.within; right = inv.right; fills = same-fills sm most h.fills }
+          pub loop-stand : (bins₁ : Bins) (mem₁ : List ℕ) → Stand s l t bins₁ mem₁ from to → Stand s l t st.bins mem (pc + 1) (pc + 1 + x.rows)
+          loop-stand bins₁ mem₁ h = record { what = (looped h.what h.stands).0; stands = (looped h.what h.stands).2; table = h.table; within = h.within; right = inv.right }
 
-          module _ (d : Cursor) (su : State) (mu : Room) (memu : List ℕ) (turned : Turned s l t (pc + 1) (pc + 1 + x.rows) x.from x.to x.counter p q st m d su mu memu) where
-            pub rows-each : d.stopped ≡ false → Same m mu → (b₀ : Block) → Stands t b₀ from to → RowsInv s l t from to p₀ q₀ st₀ m₀ d.at.0 d.count su mu memu (pc + 1 + x.rows) left last
-            rows-each e sm b₀ h₀ = onto d.at.0 d.count su mu memu (pc + 1 + x.rows) sm turned.right (omega arith) (loop-within b₀ h₀) (λ b h.
+          module _ (d : Progress) (su : State) (mu : Room) (memu : List ℕ) (turned : Turned s l t (pc + 1) (pc + 1 + x.rows) x.from x.to x.counter p q st m d su mu memu) where
+            pub rows-each : (c : Cursor) → d ≡ Ok c → (b₀ : Block) → Stands t b₀ from to → RowsInv s l t from to p₀ q₀ st₀ m₀ c.at.0 c.count su mu memu (pc + 1 + x.rows) left last
+            rows-each c e b₀ h₀ = onto c.at.0 c.count su mu memu (pc + 1 + x.rows) turned.right (omega arith) (loop-within b₀ h₀) (λ b h.
                 let a = rest_at b h in
                 let f = looped b h in
-                (f.1, f.3, a.2 ∙ ap (λ (y : Tree State). exec s l y p q m) f.4 ∙ ran_on s l (turns (x.to - x.from) x.from x.counter (meaning f.0) st) (meaning f.1) p q m d su mu (turned.runs f.0 f.2) e))
+                (f.1, f.3, a.2 ∙ ap (λ (y : Tree State). exec s l y p q m) f.4 ∙ ran_on s l (turns (x.to - x.from) x.from x.counter (meaning f.0) st) (meaning f.1) p q m d su mu (turned.runs f.0 f.2) c e))
 
-            pub each-off : d.stopped ≡ true → (b : Block) → Stands t b from to → outcome d su mu ≡ exec s l (meaning b st₀) p₀ q₀ m₀
-            each-off e b h =
+            pub each-off : (v : Stopped) → d ≡ Err v → (b : Block) → Stands t b from to → outcome (Err v) su mu ≡ exec s l (meaning b st₀) p₀ q₀ m₀
+            each-off v e b h =
                 let a = rest_at b h in
                 let f = looped b h in
-                ran-off s l (turns (x.to - x.from) x.from x.counter (meaning f.0) st) (meaning f.1) p q m d su mu (turned.runs f.0 f.2) e
+                ran-off s l (turns (x.to - x.from) x.from x.counter (meaning f.0) st) (meaning f.1) p q m d su mu (turned.runs f.0 f.2) v e
                 ∙ sym (a.2 ∙ ap (λ (y : Tree State). exec s l y p q m) f.4)
 
 -- the loop over the turns, at j
@@ -407,23 +401,22 @@ unfolding turns
 turns_more s l n j k b st p q m h = let e : n - j ≡ suc (n - (j + 1)) = omega arith in rw (e, add-one) refl
 
 pub record EachInv (s : List ℕ) (l : ℕ) (t : List ℕ) (from to i n k p₀ q₀ : ℕ) (st₀ : State) (m₀ : Room) (p q : ℕ) (st : State) (m : Room) (mem : List ℕ) (j : ℕ) : Type 0 where
-  pub same : Same m₀ m
   pub right : Right mem st.bins
   pub rest : (b : Block) → Stands t b from to → turning s l n i k b st₀ p₀ q₀ m₀ ≡ turning s l n j k b st p q m
 
 module _ (s : List ℕ) (l : ℕ) (t : List ℕ) (from to i n k p₀ q₀ : ℕ) (st₀ : State) (m₀ : Room) where
   pub turns-start : (mem : List ℕ) → Right mem st₀.bins → EachInv s l t from to i n k p₀ q₀ st₀ m₀ p₀ q₀ st₀ m₀ mem i
-  turns-start mem h = record { same = same_refl m₀; right = h; rest = λ b p. refl }
+  turns-start mem h = record { right = h; rest = λ b p. refl }
 
   module _ (p q : ℕ) (st : State) (m : Room) (mem : List ℕ) (j : ℕ) (inv : EachInv s l t from to i n k p₀ q₀ st₀ m₀ p q st m mem j) where
-    pub turns-end : n ≤ j → (d : Cursor) → d ≡ going_at p q → Turned s l t from to i n k p₀ q₀ st₀ m₀ d st m mem
+    pub turns-end : n ≤ j → (c : Cursor) → c.at.0 ≡ p → c.count ≡ q → Turned s l t from to i n k p₀ q₀ st₀ m₀ (Ok c) st m mem
     unfolding turns exec
-    turns-end h d ed = record {
+    turns-end h c ep eq = record {
       right = inv.right;
       runs = λ b g.
           let e : n - j ≡ 0 = omega arith in
           let z : turning s l n j k b st p q m ≡ got (accepted st) p q m = rw e refl in
-          let y : outcome d st m ≡ got (accepted st) p q m = rw ed refl in
+          let y : outcome (Ok c) st m ≡ got (accepted st) p q m = rw (ep, eq) refl in
           y ∙ sym (inv.rest b g ∙ z);
     }
 
@@ -437,23 +430,20 @@ module _ (s : List ℕ) (l : ℕ) (t : List ℕ) (from to i n k p₀ q₀ : ℕ)
           → EachInv s l t from to i n k p₀ q₀ st₀ m₀ p' q' st' m' mem' (j + 1)
       unfolding go_on
       turns-on p' q' st' m' mem' pc left last rows h = record {
-        same = same-trans inv.same rows.same;
         right = rows.right;
         rest = λ b g. turned b g ∙ ap (λ (o : Out State). o then turning s l n (j + 1) k b) (rows_end s l t from to p q (state x st.bins) m p' q' st' m' mem' pc left last rows h b g);
       }
 
-      pub turns-off : (d : Cursor) (su : State) (mu : Room) (memu : List ℕ) → d.stopped ≡ true → Right memu su.bins → ((b : Block) → Stands t b from to → outcome d su mu ≡ exec s l (meaning b (state x st.bins)) p q m)
-          → Turned s l t from to i n k p₀ q₀ st₀ m₀ d su mu memu
+      pub turns-off : (v : Stopped) (su : State) (mu : Room) (memu : List ℕ) → Right memu su.bins → ((b : Block) → Stands t b from to → outcome (Err v) su mu ≡ exec s l (meaning b (state x st.bins)) p q m)
+          → Turned s l t from to i n k p₀ q₀ st₀ m₀ (Err v) su mu memu
       unfolding go_on
-      turns-off d su mu memu e hr f = record {
+      turns-off v su mu memu hr f = record {
         right = hr;
-        runs = λ b g.
-            let z : (outcome d su mu then turning s l n (j + 1) k b) ≡ outcome d su mu = rw e refl in
-            sym (turned b g ∙ ap (λ (o : Out State). o then turning s l n (j + 1) k b) (sym (f b g)) ∙ z);
+        runs = λ b g. sym (turned b g ∙ ap (λ (o : Out State). o then turning s l n (j + 1) k b) (sym (f b g)));
       }
 
 -- numbers of the loops
-module _ {s : List ℕ} {l : ℕ} {t : List ℕ} {b : Bins} {mem : List ℕ} {most : ℕ} {m : Room} {from to : ℕ} (h : Stand s l t b mem most m from to) where
+module _ {s : List ℕ} {l : ℕ} {t : List ℕ} {b : Bins} {mem : List ℕ} {from to : ℕ} (h : Stand s l t b mem from to) where
   pub stand-end : to ≤ 1023
   stand-end = omega (arith, h.stands.room, length-map t row_of, h.table.sized)
 
@@ -463,16 +453,13 @@ module _ {s : List ℕ} {l : ℕ} {t : List ℕ} {b : Bins} {mem : List ℕ} {mo
   pub stand-inside : (pc : ℕ) → pc < to → pc < length t
   stand-inside pc less = omega (arith, h.stands.room, length-map t row_of)
 
-  pub stand-ready : (m' : Room) → Same m m' → (pc : ℕ) → pc < to → (w : ℕ) → w ≡ get_or t pc 0 → Ready s l w most m'
-  stand-ready m' sm pc less w ew = record {
-    wide = record { narrow = narrow-width w (rw ew (narrow_at t pc (stand-inside pc less) h.table.narrows)); within = h.within };
-    fills = same-fills sm most h.fills;
-  }
+  pub stand-ready : (pc : ℕ) → pc < to → (w : ℕ) → w ≡ get_or t pc 0 → Wide s l w
+  stand-ready pc less w ew = record { narrow = narrow-width w (rw ew (narrow_at t pc (stand-inside pc less) h.table.narrows)); within = h.within }
 
-  pub stand-opens : (m' : Room) → Same m m' → (mem' : List ℕ) (bins' : Bins) → Right mem' bins' → (w : ℕ) → 4 ≤ w % 16 → Opens s l w mem' bins' most m'
-  stand-opens m' sm mem' bins' hr w k = record { kind = k; within = h.within; right = hr; fills = same-fills sm most h.fills }
+  pub stand-opens : (mem' : List ℕ) (bins' : Bins) → Right mem' bins' → (w : ℕ) → 4 ≤ w % 16 → Opens s l w mem' bins'
+  stand-opens mem' bins' hr w k = record { kind = k; within = h.within; right = hr }
 
 -- one turn, with no counter
-pub turned-once : {s : List ℕ} {l : ℕ} {t : List ℕ} {from to p q : ℕ} {st : State} {m : Room} {d : Cursor} {su : State} {mu : Room} {mem : List ℕ} → Turned s l t from to 0 1 0 p q st m d su mu mem
+pub turned-once : {s : List ℕ} {l : ℕ} {t : List ℕ} {from to p q : ℕ} {st : State} {m : Room} {d : Progress} {su : State} {mu : Room} {mem : List ℕ} → Turned s l t from to 0 1 0 p q st m d su mu mem
     → (b : Block) → Stands t b from to → outcome d su mu ≡ exec s l (meaning b st) p q m
 turned-once {s} {l} {p} {q} {st} {m} h b k = h.runs b k ∙ ap (λ (u : Tree State). exec s l u p q m) (one-turn (meaning b) st)
