@@ -1,30 +1,37 @@
 -- Recorded and stored. Assumes nothing.
-use Prim.Native.Nat.{ℕ, ◌+◌, ◌≤◌, ◌<◌}
-use mathlib.Core.Path.{◌≡◌, refl}
+use Prim.Native.Nat.{ℕ}
+use mathlib.Core.Path.{◌≡◌, refl, sym, ap, ◌∙◌}
 use mathlib.Core.List.{List}
-use lib.ListN.{set}
-use lib.IntN.{ℤ}
-use borrow.Author.Tests.{le-leb, lt-leb, eq-eqb, ne_eqb}
-use Rattle.reading.specs.Room.{Room, room, pushed}
-use Rattle.syntax.specs.Records.{going_at, halted_at}
-use Rattle.syntax.specs.Rooms.{Fills}
+use Rattle.std.specs.Prelude.{Ok, Err}
+use Rattle.reading.specs.Run.{Field, field_of, accepted}
+use Rattle.reading.specs.Room.{Room, Out, got}
+use Rattle.reading.proofs.Rooms.{◌then◌}
+use Rattle.syntax.specs.Cursors.{Progress}
+use Rattle.syntax.specs.Records.{outcome, keep_of}
 use Rattle.syntax.specs.declared.Cursor.{Cursor}
-use Rattle.cells.specs.Cells.{cell_of, put_in, place_of, sum_of, signed}
-use Rattle.cells.specs.Names.{BLOCK}
+use Rattle.syntax.specs.declared.Stopped.{Stopped}
+use Rattle.syntax.proofs.Recording.{keep-then, on, off}
+use Rattle.slots.specs.Held.{Bins}
+use Rattle.cells.specs.Cells.{State, state, put_in, place_of, stored, part_of}
 use Rattle.rows.specs.Rows.{name_in, index_in, keep_in}
-use Rattle.recording.specs.Recorded.{Keeps}
+use Rattle.recording.specs.Recorded.{recorded, Keeps}
 use Rattle.recording.specs.declared.Look.{Look}
 
 module _ (w : ℕ) (cells : List ℕ) (p q : ℕ) (m : Room) (x : Look) where
-  pub keeps-missed : ¬ (x.number ≡ 0) → (c : Cursor) → c ≡ halted_at x.place.0 q x.number → Keeps w x cells p q m c cells m
-  keeps-missed h c e = record { is = λ b. rw (e, ne_eqb _ _ h) refl }
+  abbrev pub field : Field
+  field = field_of (part_of (name_in w) (index_in w) cells) p x.width x.value
 
-  module _ (h : x.number ≡ 0) (most : ℕ) (fills : Fills most m) where
-    pub keeps-full : most ≤ q → (c : Cursor) → c ≡ halted_at p q 33 → Keeps w x cells p q m c cells m
-    keeps-full k c e = record { is = λ b. rw (e, eq-eqb _ _ h, fills.is, le-leb _ _ k) refl }
+  abbrev stores : Bins → ℕ → ℕ → Room → Out State
+  stores b p n m = got (accepted (stored (state cells b) (place_of (keep_in w) cells) x.stored)) p n m
 
-    pub keeps-made : q < most → (name : ℕ) → name ≡ name_in w → (a : ℕ) → a ≡ cell_of cells BLOCK → (bl : ℤ) → bl ≡ signed 128 a → (z : ℕ) → z ≡ sum_of (index_in w) cells → (ix : ℤ) → ix ≡ signed 32768 z
-        → (k : ℕ) → k ≡ place_of (keep_in w) cells → (y : List ℕ) → y ≡ put_in cells k x.stored → (c : Cursor) → c ≡ going_at x.place.0 (q + 1)
-        → Keeps w x cells p q m c y (room (set m.names q name) (set m.blocks q bl) (set m.indexes q ix) (set m.firsts q p) (set m.widths q x.width) (set m.values q x.value))
-    unfolding pushed
-    keeps-made g name en a ea bl eb z ez ix ei k ek y ey c ec = record { is = λ b. rw (ec, ey, en, eb, ea, ei, ez, ek, eq-eqb _ _ h, fills.is, lt-leb _ _ g) refl }
+  module _ (r : Progress) (mu : Room) (e : outcome r x.value mu ≡ keep_of field x.place.0 q m) where
+    after : (b : Bins) → recorded w x (state cells b) p q m ≡ (outcome r x.value mu then (λ _ p n m. stores b p n m))
+    after b = keep-then m q field x.place.0 (stores b) ∙ ap (λ (o : Out ℕ). o then (λ _ p n m. stores b p n m)) (sym e)
+
+    pub keeps-full : (v : Stopped) → r ≡ Err v → Keeps w x cells p q m (Err v) cells mu
+    keeps-full v h = record { is = λ b. sym (after b ∙ ap (λ (y : Progress). outcome y x.value mu then (λ _ p n m. stores b p n m)) h ∙ off x.value mu (λ _ p n m. stores b p n m) v) }
+
+    pub keeps-made : (c : Cursor) → r ≡ Ok c → (k : ℕ) → k ≡ place_of (keep_in w) cells → (y : List ℕ) → y ≡ put_in cells k x.stored → Keeps w x cells p q m (Ok c) y mu
+    keeps-made c h k ek y ey = record {
+      is = λ b. rw (ey, ek) refl ∙ sym (after b ∙ ap (λ (y : Progress). outcome y x.value mu then (λ _ p n m. stores b p n m)) h ∙ on x.value mu (λ _ p n m. stores b p n m) c);
+    }

@@ -1,63 +1,51 @@
 // What a row of input finds, recorded and stored.
 #![tactic(auto)]
 
-ghost use Rattle.reading.specs.Room.{room};
-ghost use Rattle.syntax.specs.Rooms.{Fills};
-ghost use Rattle.recording.specs.Recorded.{Keeps};
+ghost use Rattle.std.specs.Prelude.{◌≡◌};
+ghost use Rattle.syntax.specs.Rooms.{room_of, SameSlices};
+ghost use Rattle.recording.specs.Recorded.{label_in, Keeps};
 
 use bits::BitPlace;
 use cells::numbers::BLOCK;
 use cells::{cell_of, put};
 use rows::fields::{block_part, index_of, index_part, keep_of, name_of};
-use syntax::{Cursor, going, halted};
+use syntax::room::RecordRoom;
+use syntax::{Cursor, Label, Stopped};
 
-// What a row of input finds: 0 with the place after it, its width, the value that is recorded and the value that is stored; or a refusal and its place.
+// What a row of input finds: the place after it, its width, the value that is recorded and the value that is stored.
 #[derive(Clone, Copy)]
 pub struct Look {
-    pub number: u8,
     pub place: BitPlace,
     pub width: u16,
     pub value: u32,
     pub stored: u32,
 }
 
-// What is found is recorded and stored. 33 where there is no room.
-pub fn keep(
-    names: &mut [u8],
-    blocks: &mut [i8],
-    indexes: &mut [i16],
-    firsts: &mut [u16],
-    widths: &mut [u16],
-    values: &mut [u32],
-    cells: &mut [u16; 1024],
-    at: BitPlace,
-    count: usize,
-    most: usize,
-    w: u64,
-    l: Look,
-) -> Cursor
-    requires { Fills most (room names.old blocks.old indexes.old firsts.old widths.old values.old) }
-    ensures { Keeps w l cells.old at.0 count (room names.old blocks.old indexes.old firsts.old widths.old values.old)
-        result cells.new (room names.new blocks.new indexes.new firsts.new widths.new values.new) }
+// What the record of a row is called.
+pub fn label_of(w: u64, cells: &[u16; 1024]) -> Label
+    ensures { result ≡ label_in w cells.now }
 {
-    let number = l.number;
-    let place = l.place;
-    let width = l.width;
-    let value = l.value;
-    let stored = l.stored;
-    if number != 0 {
-        return halted(place, count, number);
+    Label {
+        name: name_of(w),
+        block: block_part(cell_of(cells, BLOCK)),
+        index: index_part(index_of(w, cells)),
     }
-    if most <= count {
-        return halted(at, count, 33);
-    }
-    names[count] = name_of(w);
-    blocks[count] = block_part(cell_of(cells, BLOCK));
-    indexes[count] = index_part(index_of(w, cells));
-    firsts[count] = at.0;
-    widths[count] = width;
-    values[count] = value;
+}
+
+// What is found is recorded and stored.
+pub fn keep(
+    room: &mut RecordRoom<'_>,
+    cells: &mut [u16; 1024],
+    cur: Cursor,
+    w: u64,
+    found: Look,
+) -> Result<Cursor, Stopped>
+    ensures kept { Keeps w found cells.old cur.at.0 cur.count (room_of room.old) result cells.new (room_of room.new) }
+    ensures same { SameSlices room.old room.new }
+{
+    let label = label_of(w, cells);
+    let next = room.keep(cur, label, found.width, found.value, found.place)?;
     let k = keep_of(w, cells);
-    put(cells, k, stored);
-    going(place, count + 1)
+    put(cells, k, found.stored);
+    Ok(next)
 }
