@@ -1,32 +1,30 @@
 -- What the functions ask that read and record, and what they tell.
-use Rattle.std.specs.Prelude.{ℕ, ◌+◌, ◌-◌, ◌*◌, ◌%◌, ◌≤◌, ◌<◌, cond, List, ◌≡◌, ltb, length, replicate, Result, Ok, Err}
+use Rattle.std.specs.Prelude.{ℕ, ◌+◌, ◌-◌, ◌*◌, ◌%◌, ◌≤◌, ◌<◌, cond, List, ◌≡◌, ltb, length, Result, Ok, Err}
 use Rattle.bits.specs.Bits.{bits_at}
-use Rattle.reading.specs.Room.{Room, exec}
+use Rattle.reading.specs.Room.{Room, Out, got, exec}
 use Rattle.syntax.specs.Records.{outcome}
-use Rattle.syntax.specs.Rooms.{Fills}
-use Rattle.syntax.specs.declared.Cursor.{Cursor}
+use Rattle.syntax.specs.Cursors.{Progress}
+use Rattle.syntax.specs.declared.Stopped.{Stopped}
+use Rattle.reading.specs.Run.{refused}
+use Rattle.refusals.specs.Refusals.{number_of}
 use Rattle.slots.specs.Held.{Bins, Held}
 use Rattle.refusals.specs.declared.Refusal.TheVariants.{Truncated}
 use Rattle.refusals.specs.declared.Refused.{Refused}
 use Rattle.plan.specs.declared.Taken.{Taken}
 use Rattle.allocation.specs.Memo.{Memo}
-use Rattle.cells.specs.Cells.{State, state, cell_of, sum_of, signed}
-use Rattle.cells.specs.Names.{ABSEXP, BLOCK}
+use Rattle.cells.specs.Cells.{State, state, cell_of, sum_of}
+use Rattle.cells.specs.Names.{ABSEXP}
 use Rattle.derivations.specs.Sets.{strategy_of, start_of, end_of}
-use Rattle.rows.specs.Rows.{name_in, index_in, slot_in, width_in}
+use Rattle.rows.specs.Rows.{slot_in, width_in}
 use Rattle.rows.specs.Steps.{input_in, set_in}
-use Rattle.recording.specs.Recorded.{looked, recorded}
+use Rattle.recording.specs.Recorded.{label_in, looked, recorded}
 use Rattle.recording.specs.declared.Look.{Look}
-use Rattle.inputs.specs.declared.Set.{Set}
+use Rattle.exponents.specs.declared.set.Set.{Set}
 
 -- no element is too wide, and the frame ends within the data
 pub record Wide (s : List ℕ) (l w : ℕ) : Type 0 where
   pub narrow : w % 16 < 3 → width_in w ≤ 25
   pub within : l ≤ 8 * length s
-
-pub record Ready (s : List ℕ) (l w most : ℕ) (m : Room) : Type 0 where
-  pub wide : Wide s l w
-  pub fills : Fills most m
 
 -- bits that would pass the end
 abbrev pub short : ℕ → Refused
@@ -40,41 +38,43 @@ abbrev pub passed_of : ℕ → ℕ → ℕ → Result Look Refused
 passed_of l p w = cond (ltb l (p + w)) (Err (short p)) (Ok (looked (p + w) w 0 0))
 
 -- the mantissas of the block, from the place p on: a span, and the first number that their walk tells
-abbrev pub passed_by : Result Taken Refused → ℕ → Result Look Refused
-passed_by (Ok t) p = Ok (looked t.place.0 (t.place.0 - p) 0 t.tags)
-passed_by (Err e) p = Err e
+abbrev pub passed_by : Taken → ℕ → Look
+passed_by t p = looked t.place.0 (t.place.0 - p) 0 t.tags
 
--- the other numbers that it tells: after a refusal all are 0
-abbrev pub bits_taken : Result Taken Refused → List ℕ
-bits_taken (Ok t) = t.bits
-bits_taken (Err e) = replicate 7 0
+-- a refusal, after so many records
+abbrev pub stopped_by : Refused → ℕ → Stopped
+stopped_by e q = record { refusal = e.refusal; at = e.place; count = q }
+
+-- what is found is recorded and stored, and a refusal stands
+abbrev pub found_by : ℕ → Result Look Refused → State → ℕ → ℕ → Room → Out State
+found_by w (Ok x) st p q m = recorded w x st p q m
+found_by w (Err e) st p q m = got (refused (number_of e.refusal)) e.place.0 q m
 
 -- a row of input finds this at the place p; an element or a span does, whatever the bins are
 pub record Looks (s : List ℕ) (l w : ℕ) (st : State) (p : ℕ) (x : Result Look Refused) : Type 0 where
-  pub is : (q : ℕ) (m : Room) → exec s l (input_in w st) p q m ≡ recorded w x st p q m
+  pub is : (q : ℕ) (m : Room) → exec s l (input_in w st) p q m ≡ found_by w x st p q m
 
 pub record Sees (s : List ℕ) (l w : ℕ) (cells : List ℕ) (p : ℕ) (x : Result Look Refused) : Type 0 where
   pub is : (b : Bins) → Looks s l w (state cells b) p x
 
 -- an element or a span was read once
-pub record Takes (s : List ℕ) (l w : ℕ) (cells : List ℕ) (p q : ℕ) (m : Room) (c : Cursor) (cells' : List ℕ) (m' : Room) : Type 0 where
-  pub is : (b : Bins) → outcome c (state cells' b) m' ≡ exec s l (input_in w (state cells b)) p q m
+pub record Takes (s : List ℕ) (l w : ℕ) (cells : List ℕ) (p q : ℕ) (m : Room) (r : Progress) (cells' : List ℕ) (m' : Room) : Type 0 where
+  pub is : (b : Bins) → outcome r (state cells' b) m' ≡ exec s l (input_in w (state cells b)) p q m
 
 -- no exponent is too large, and what is kept of allocations is right
 pub record Right (mem : List ℕ) (b : Bins) : Type 0 where
   pub held : Held b.exps
   pub memo : Memo mem b.exps b.baps
 
--- the mantissas or a set of exponents are to be read: the frame ends within the data, bins and allocations are right, and so many records fit into the room
-pub record Opens (s : List ℕ) (l w : ℕ) (mem : List ℕ) (b : Bins) (most : ℕ) (m : Room) : Type 0 where
+-- the mantissas or a set of exponents are to be read: the frame ends within the data, bins and allocations are right
+pub record Opens (s : List ℕ) (l w : ℕ) (mem : List ℕ) (b : Bins) : Type 0 where
   pub kind : 4 ≤ w % 16
   pub within : l ≤ 8 * length s
   pub right : Right mem b
-  pub fills : Fills most m
 
 -- they were read: the mantissas by a row of a kind below 8
-pub record Gathers (s : List ℕ) (l w : ℕ) (st : State) (p q : ℕ) (m : Room) (c : Cursor) (st' : State) (m' : Room) (mem' : List ℕ) : Type 0 where
-  pub is : outcome c st' m' ≡ exec s l (cond (ltb (w % 16) 8) (input_in w st) (set_in w st)) p q m
+pub record Gathers (s : List ℕ) (l w : ℕ) (st : State) (p q : ℕ) (m : Room) (r : Progress) (st' : State) (m' : Room) (mem' : List ℕ) : Type 0 where
+  pub is : outcome r st' m' ≡ exec s l (cond (ltb (w % 16) 8) (input_in w st) (set_in w st)) p q m
   pub right : Right mem' st'.bins
 
 -- what a set of exponents is read with
@@ -82,9 +82,7 @@ abbrev pub set_by : ℕ → List ℕ → Set
 set_by w m =
     let n = sum_of (slot_in w) m % 256 in
     record {
-      name = name_in w;
-      block = signed 128 (cell_of m BLOCK);
-      index = signed 32768 (sum_of (index_in w) m);
+      label = label_in w m;
       slot = n;
       strategy = strategy_of m n % 256;
       start = start_of m n;

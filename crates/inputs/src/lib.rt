@@ -2,25 +2,25 @@
 #![tactic(auto)]
 
 ghost use Rattle.std.specs.Prelude.{◌≡◌, ◌*◌, ◌%◌, ◌≤◌, ◌<◌, length};
-ghost use Rattle.reading.specs.Room.{room};
+ghost use Rattle.syntax.specs.Rooms.{room_of, SameSlices};
 ghost use Rattle.slots.specs.Held.{bins};
 ghost use Rattle.cells.specs.Cells.{state, puts_in};
-ghost use Rattle.inputs.specs.Reads.{Wide, Ready, bits_of, passed_of, passed_by, bits_taken, Sees, Takes, Opens, Gathers, set_by};
+ghost use Rattle.inputs.specs.Reads.{Wide, bits_of, passed_of, stopped_by, Sees, Takes, Opens, Gathers, set_by};
 
 use bits::{BitPlace, bits_at, past};
-use cells::numbers::{ABSEXP, BLOCK};
+use cells::numbers::ABSEXP;
 use cells::{cell_of, put};
 use derivations::block_mantissas::mantissas_in;
 use derivations::sets::{end_of, start_of, strategy_of};
-use exponents::set::read_exponents;
+use exponents::set::{Set, read_exponents};
 use kept::stale;
-use plan::Taken;
-use recording::{Look, keep};
+use recording::{Look, keep, label_of};
 use refusals::{Refusal, Refused};
-use rows::fields::{block_part, index_of, index_part, keep_of, name_of, slot_of, width_of};
-use syntax::Cursor;
+use rows::fields::{keep_of, slot_of, width_of};
+use syntax::room::RecordRoom;
+use syntax::{Cursor, Stopped};
 
-// The bits of an element; those of a span; the mantissas of the block.
+// The bits of an element; those of a span.
 fn element(src: &[u8], at: BitPlace, limit: BitPlace, width: u16) -> Result<Look, Refused>
     requires { (width ≤ 25) × (limit.0 ≤ 8 * length src.now) }
     ensures { result ≡ bits_of src.now limit.0 at.0 width }
@@ -57,25 +57,14 @@ fn span(at: BitPlace, limit: BitPlace, width: u16) -> Result<Look, Refused>
     })
 }
 
-fn mantissas(t: Result<Taken, Refused>, at: BitPlace) -> Result<Look, Refused>
-    ensures { result ≡ passed_by t at.0 }
+// A refusal, after so many records.
+fn stopped(refused: Refused, count: usize) -> Stopped
+    ensures { result ≡ stopped_by refused count }
 {
-    let t = t?;
-    Ok(Look {
-        place: t.place,
-        width: t.place.0.saturating_sub(at.0),
-        value: 0,
-        stored: u32::from(t.tags),
-    })
-}
-
-// The bits that each slot took: none after a refusal.
-fn bits_taken(t: Result<Taken, Refused>) -> [u16; 7]
-    ensures { result ≡ bits_taken t }
-{
-    match t {
-        Ok(t) => t.bits,
-        Err(_) => [0; 7],
+    Stopped {
+        refusal: refused.refusal,
+        at: refused.place,
+        count,
     }
 }
 
@@ -103,40 +92,20 @@ fn seek(
 // What an element or a span reads, once.
 pub fn take(
     src: &[u8],
-    names: &mut [u8],
-    blocks: &mut [i8],
-    indexes: &mut [i16],
-    firsts: &mut [u16],
-    widths: &mut [u16],
-    values: &mut [u32],
+    room: &mut RecordRoom<'_>,
     cells: &mut [u16; 1024],
-    at: BitPlace,
-    count: usize,
+    cur: Cursor,
     limit: BitPlace,
-    most: usize,
     w: u64,
-) -> Cursor
-    requires { (Ready src.now limit.0 w most (room names.old blocks.old indexes.old firsts.old widths.old values.old)) × (w % 16 < 4) }
-    ensures { Takes src.now limit.0 w cells.old at.0 count (room names.old blocks.old indexes.old firsts.old widths.old values.old)
-        result cells.new (room names.new blocks.new indexes.new firsts.new widths.new values.new) }
+) -> Result<Cursor, Stopped>
+    requires { (Wide src.now limit.0 w) × (w % 16 < 4) }
+    ensures taken { Takes src.now limit.0 w cells.old cur.at.0 cur.count (room_of room.old) result cells.new (room_of room.new) }
+    ensures same { SameSlices room.old room.new }
 {
-    let l = seek(src, cells, at, limit, w);
-    keep(
-        names, blocks, indexes, firsts, widths, values, cells, at, count, most, w, l,
-    )
-}
-
-// What a set of exponents is read with.
-#[derive(Clone, Copy)]
-pub struct Set {
-    pub name: u8,
-    pub block: i8,
-    pub index: i16,
-    pub slot: u8,
-    pub strategy: u8,
-    pub start: u16,
-    pub end: u16,
-    pub absexp: u8,
+    match seek(src, cells, cur.at, limit, w) {
+        Ok(found) => keep(room, cells, cur, w, found),
+        Err(refused) => Err(stopped(refused, cur.count)),
+    }
 }
 
 // The set of exponents of a row.
@@ -145,10 +114,8 @@ fn set_of(w: u64, cells: &[u16; 1024]) -> Set
 {
     let slot = slot_of(w, cells);
     Set {
-        name: name_of(w),
-        block: block_part(cell_of(cells, BLOCK)),
-        index: index_part(index_of(w, cells)),
-        slot: slot,
+        label: label_of(w, cells),
+        slot,
         strategy: (strategy_of(cells, slot) % 256) as u8,
         start: start_of(cells, slot),
         end: end_of(cells, slot),
@@ -169,40 +136,37 @@ fn tell(cells: &mut [u16; 1024], k: usize, numbers: [u16; 7])
 // What the mantissas of a block read, or a set of exponents. What their walk tells besides the tags is put behind them.
 pub fn gather(
     src: &[u8],
-    names: &mut [u8],
-    blocks: &mut [i8],
-    indexes: &mut [i16],
-    firsts: &mut [u16],
-    widths: &mut [u16],
-    values: &mut [u32],
+    room: &mut RecordRoom<'_>,
     cells: &mut [u16; 1024],
     exps: &mut [u8; 1792],
     baps: &[u8; 1792],
     memo: &mut [u64; 42],
-    at: BitPlace,
-    count: usize,
+    cur: Cursor,
     limit: BitPlace,
-    most: usize,
     w: u64,
-) -> Cursor
-    requires { Opens src.now limit.0 w memo.old (bins exps.old baps.now) most (room names.old blocks.old indexes.old firsts.old widths.old values.old) }
-    ensures { Gathers src.now limit.0 w (state cells.old (bins exps.old baps.now)) at.0 count (room names.old blocks.old indexes.old firsts.old widths.old values.old)
-        result (state cells.new (bins exps.new baps.now)) (room names.new blocks.new indexes.new firsts.new widths.new values.new) memo.new }
+) -> Result<Cursor, Stopped>
+    requires { Opens src.now limit.0 w memo.old (bins exps.old baps.now) }
+    ensures gathered { Gathers src.now limit.0 w (state cells.old (bins exps.old baps.now)) cur.at.0 cur.count (room_of room.old)
+        result (state cells.new (bins exps.new baps.now)) (room_of room.new) memo.new }
+    ensures same { SameSlices room.old room.new }
 {
-    if w % 16 < 8 {
-        let t = mantissas_in(src, cells, baps, memo, at, limit);
-        let k = keep_of(w, cells);
-        let l = mantissas(t, at);
-        let c = keep(
-            names, blocks, indexes, firsts, widths, values, cells, at, count, most, w, l,
-        );
-        tell(cells, k + 1, bits_taken(t));
-        return c;
+    if w % 16 >= 8 {
+        let set = set_of(w, cells);
+        stale(memo, set.slot);
+        return read_exponents(src, room, exps, cur, limit, set);
     }
-    let x = set_of(w, cells);
-    stale(memo, x.slot);
-    read_exponents(
-        src, names, blocks, indexes, firsts, widths, values, exps, at, count, limit, most, x.name,
-        x.block, x.index, x.slot, x.strategy, x.start, x.end, x.absexp,
-    )
+    let taken = match mantissas_in(src, cells, baps, memo, cur.at, limit) {
+        Ok(taken) => taken,
+        Err(refused) => return Err(stopped(refused, cur.count)),
+    };
+    let found = Look {
+        place: taken.place,
+        width: taken.place.0.saturating_sub(cur.at.0),
+        value: 0,
+        stored: u32::from(taken.tags),
+    };
+    let k = keep_of(w, cells);
+    let next = keep(room, cells, cur, w, found)?;
+    tell(cells, k + 1, taken.bits);
+    Ok(next)
 }

@@ -1,24 +1,29 @@
 use native.Mathlib.Omega.{arith}
-use Rattle.inputs.proofs.Takes.{gathers-mantissas, gathers-set}
+use mathlib.Core.Path.{refl}
+use Rattle.syntax.proofs.Returned.{returned}
+use Rattle.inputs.proofs.Takes.{gathers-missed, gathers-full, gathers-mantissas, gathers-set}
 use Rattle.inputs.proofs.gather.Goals as goal
 
-pub mantissas_in-t-requires : goal.mantissas_in-t-requires
-mantissas_in-t-requires c = (c.requires.right.memo.tallies, c.requires.within)
-
-pub keep-c-requires : goal.keep-c-requires
-keep-c-requires c = c.requires.fills
+pub mantissas_in-requires : goal.mantissas_in-requires
+mantissas_in-requires c = (c.requires.right.memo.tallies, c.requires.within)
 
 pub tell-requires : goal.tell-requires
 tell-requires c = omega (arith, c.keep_of-k.ensures.1)
-
-pub returns-then-w-lt8 : goal.returns-then-w-lt8
-returns-then-w-lt8 c = gathers-mantissas _ _ _ _ _ _ _ c.requires.right _ _ _ c.requires.kind c.if-w-lt8.true c.mantissas_in-t.result (c.mantissas_in-t.ensures _) _ c.mantissas-l.ensures c.keep-c.result _ _ c.keep-c.ensures _ c.keep_of-k.ensures.0 _ (rw (← c.bits_taken.ensures) c.tell.ensures)
 
 pub stale-requires : goal.stale-requires
 stale-requires c = c.requires.right.memo.tallies.size
 
 pub read_exponents-requires : goal.read_exponents-requires
-read_exponents-requires c = record { within = c.requires.within; fills = c.requires.fills; held = c.requires.right.held; small = c.set_of-x.ensures.1 }
+read_exponents-requires c = record { within = c.requires.within; held = c.requires.right.held; small = c.set_of-set.ensures.1 }
 
-pub returns : goal.returns
-returns c = gathers-set _ _ _ _ _ _ _ c.requires.right _ _ _ c.set_of-x.result c.set_of-x.ensures.0 c.read_exponents.result _ _ c.read_exponents.ensures c.if-w-lt8.false _ c.stale.ensures
+pub returns-then-w-ge8-clause-gathered : goal.returns-then-w-ge8-clause-gathered
+returns-then-w-ge8-clause-gathered c = gathers-set _ _ _ _ _ _ _ c.requires.right _ _ _ c.requires.kind _ c.set_of-set.ensures.0 _ _ _ c.read_exponents.ensures.read c.if-w-ge8.true _ c.stale.ensures
+
+pub returns-in-Err-clause-gathered : goal.returns-in-Err-clause-gathered
+returns-in-Err-clause-gathered c = gathers-missed _ _ _ _ _ _ _ c.requires.right _ _ _ c.requires.kind (omega (arith, c.if-w-ge8.false)) _ c.in-Err.is (c.mantissas_in.ensures _) _ c.stopped.ensures
+
+pub returns-in_err-next-clause-gathered : goal.returns-in_err-next-clause-gathered
+returns-in_err-next-clause-gathered c = rw (returned _ _ c.from_residual.ensures.1) (gathers-full _ _ _ _ _ _ _ c.requires.right _ _ _ c.requires.kind (omega (arith, c.if-w-ge8.false)) _ c.in-Ok.is (c.mantissas_in.ensures _) _ (rw (c.saturating_sub.ensures, c.from.ensures) refl) _ _ _ c.keep.ensures.kept _ c.in_err-next.was _)
+
+pub returns-clause-gathered : goal.returns-clause-gathered
+returns-clause-gathered c = gathers-mantissas _ _ _ _ _ _ _ c.requires.right _ _ _ c.requires.kind (omega (arith, c.if-w-ge8.false)) _ c.in-Ok.is (c.mantissas_in.ensures _) _ (rw (c.saturating_sub.ensures, c.from.ensures) refl) _ _ _ c.keep.ensures.kept _ c.in_ok-next.was _ c.keep_of-k.ensures.0 _ c.tell.ensures

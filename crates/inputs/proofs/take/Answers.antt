@@ -1,11 +1,11 @@
-use Rattle.inputs.proofs.Takes.{takes}
+use Rattle.inputs.proofs.Takes.{takes, misses}
 use Rattle.inputs.proofs.take.Goals as goal
 
-pub seek-l-requires : goal.seek-l-requires
-seek-l-requires c = (c.requires.0.wide, c.requires.1)
+pub seek-requires : goal.seek-requires
+seek-requires c = (c.requires.0, c.requires.1)
 
-pub keep-requires : goal.keep-requires
-keep-requires c = c.requires.0.fills
+pub returns-in-Ok-clause-taken : goal.returns-in-Ok-clause-taken
+returns-in-Ok-clause-taken c = takes _ c.in-Ok.is c.seek.ensures c.keep.ensures.kept
 
-pub returns : goal.returns
-returns c = takes c.seek-l.ensures c.keep.ensures
+pub returns-in-Err-clause-taken : goal.returns-in-Err-clause-taken
+returns-in-Err-clause-taken c = misses _ c.in-Err.is _ c.stopped.ensures c.seek.ensures
