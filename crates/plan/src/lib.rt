@@ -12,7 +12,7 @@ use allocation::memo::tally_at;
 use bits::BitPlace;
 use hybrid::aht;
 use mantissas::{Groups, pass};
-use slots::{CPL, LFE, Shape, hybrid, least, range_at, read};
+use slots::{CPL, LFE, Shape, hybrid, range_at, read};
 
 // Where the walk through a block stands: a refusal number, or 0; the place; the tags; the counts of groups; the bits that
 // each slot took.
@@ -177,7 +177,7 @@ pub fn mantissas(
     requires { (Tallies memo.now baps.now) × (limit.0 ≤ 8 * length src.now) }
     ensures { (taken result ≡ skim (mantissas_of baps.now shape) src.now at.0 limit.0) × (¬ (result.number ≡ 0) → NoneTold result) }
 {
-    let n = least(shape.nfchans as u16, 5);
+    let n = (shape.nfchans as u16).min(5);
     let mut t = Taking {
         number: 0,
         place: at,
