@@ -5,7 +5,6 @@ use mathlib.Core.List.{List, [], ◌∷◌}
 use Prim.Native.Nat.{ℕ, suc, ◌+◌, ◌-◌, ◌≤◌, ◌<◌, min}
 use native.Mathlib.Omega.{arith}
 use lib.ListN.{get_or, set, replicate}
-use Rattle.std.specs.Prelude.{Ok}
 use Rattle.reading.specs.Tree.{Skim, stop, ◌>>-◌}
 use Rattle.reading.specs.Run.{accepted, out, skim}
 use Rattle.refusals.specs.declared.Refused.{Refused}
@@ -16,11 +15,9 @@ use Rattle.skim.specs.Counted.{counted, counting}
 use Rattle.skim.specs.Outcomes.{refused_at}
 use Rattle.slots.specs.Slots.{range_of, read_of}
 use Rattle.plan.specs.Plan.{Along, along, visit_of, visit_if, slots_of, mantissas_of}
-use Rattle.plan.specs.Taken.{along_of, taken}
 use Rattle.mantissas.specs.declared.Groups.{Groups}
 use Rattle.slots.specs.declared.Shape.{Shape}
 use Rattle.slots.specs.declared.Range.{Range}
-use Rattle.plan.specs.declared.Taking.{Taking}
 use Rattle.skim.proofs.SkimLaws.{skim-stop, bind-on, bind-off, counted-on, counted-off}
 
 -- the mantissas of a slot, with the transform and without it

@@ -1,4 +1,3 @@
-use native.Mathlib.Omega.{arith}
 use mathlib.Core.Path.{sym, ◌∙◌}
 use Rattle.mantissas.proofs.MantissaLaws.{conv-end, conv-past, conv-on}
 use Rattle.mantissas.proofs.one_by_one.Goals as goal

@@ -1,11 +1,7 @@
 use native.Mathlib.Omega.{arith}
-use mathlib.Core.Bool.{Bool, false, not, ◌&&◌}
+use mathlib.Core.Bool.{false, not, ◌&&◌}
 use mathlib.Core.Path.{◌≡◌, refl, sym, ◌∙◌}
-use Prim.Native.Nat.{◌+◌, ◌-◌, ◌*◌, ◌≤◌}
 use Rattle.std.proofs.lemmas.Result.{err_from_is_err_and}
-use Rattle.reading.specs.Run.{skim}
-use Rattle.plan.specs.Plan.{slots_of}
-use Rattle.plan.specs.Taken.{along_of}
 use Rattle.plan.proofs.VisitLaws.{channel-off, alone-on, coupling-off, coupling-on, lfe-none, lfe-off, lfe-on, slots-all}
 use Rattle.plan.proofs.mantissas.Goals as goal
 use Rattle.plan.proofs.mantissas.Goals.{then-coupled+then-not-got+in_ok-visit-2, else-coupled, else-coupled-via-then-coupled+else-not-got, else-coupled-via-else-coupled, then-shape+in_ok-visit-3, else-shape}
@@ -23,10 +19,10 @@ returns-in_err-visit-2 c =
 pub loop-ch-preserved : goal.loop-ch-preserved
 loop-ch-preserved c =
     elim c.if-coupled.branch [
-      then-coupled+then-not-got+in_ok-visit-2 w ↦ rw (w.t-is, w.got-is) (omega (arith, c.in_ok-visit.ensures.1, w.in_ok-visit-2.ensures.1), c.loop-ch.invariant.1 ∙ coupling-on _ _ _ _ _ _ _ _ _ c.loop-ch-test.true _ c.coupled.ensures _ _ c.in_ok-visit.ensures.0 w.if-coupled.true w.if-not-got.true _ _ w.in_ok-visit-2.ensures.0)
+      | then-coupled+then-not-got+in_ok-visit-2 w ↦ rw (w.t-is, w.got-is) (omega (arith, c.in_ok-visit.ensures.1, w.in_ok-visit-2.ensures.1), c.loop-ch.invariant.1 ∙ coupling-on _ _ _ _ _ _ _ _ _ c.loop-ch-test.true _ c.coupled.ensures _ _ c.in_ok-visit.ensures.0 w.if-coupled.true w.if-not-got.true _ _ w.in_ok-visit-2.ensures.0)
       | else-coupled w ↦
-        let alone : c.coupled.result && not c.loop-ch.got ≡ false = elim w.else-coupled.branch [ else-coupled-via-then-coupled+else-not-got w' ↦ rw (w'.if-coupled.true, w'.if-not-got.false) | else-coupled-via-else-coupled w' ↦ rw w'.if-coupled.false ] in
-        rw (w.t-is, w.got-is) (omega (arith, c.in_ok-visit.ensures.1), c.loop-ch.invariant.1 ∙ alone-on _ _ _ _ _ _ _ _ _ c.loop-ch-test.true _ c.coupled.ensures _ _ c.in_ok-visit.ensures.0 alone)
+          let alone : c.coupled.result && not c.loop-ch.got ≡ false = elim w.else-coupled.branch [ else-coupled-via-then-coupled+else-not-got w' ↦ rw (w'.if-coupled.true, w'.if-not-got.false) | else-coupled-via-else-coupled w' ↦ rw w'.if-coupled.false ] in
+          rw (w.t-is, w.got-is) (omega (arith, c.in_ok-visit.ensures.1), c.loop-ch.invariant.1 ∙ alone-on _ _ _ _ _ _ _ _ _ c.loop-ch-test.true _ c.coupled.ensures _ _ c.in_ok-visit.ensures.0 alone)
     ]
 
 pub returns-in_err-visit-3 : goal.returns-in_err-visit-3
@@ -37,6 +33,6 @@ returns-in_err-visit-3 c =
 pub returns : goal.returns
 returns c =
     elim c.if-shape.branch [
-      then-shape+in_ok-visit-3 w ↦ rw w.t-is (lfe-on _ _ _ _ _ _ _ _ _ c.loop-ch-test.false w.if-shape.true _ _ w.in_ok-visit-3.ensures.0 ∙ sym c.loop-ch.invariant.1 ∙ slots-all _ _ _ _ _ _ c.min-n.ensures)
+      | then-shape+in_ok-visit-3 w ↦ rw w.t-is (lfe-on _ _ _ _ _ _ _ _ _ c.loop-ch-test.false w.if-shape.true _ _ w.in_ok-visit-3.ensures.0 ∙ sym c.loop-ch.invariant.1 ∙ slots-all _ _ _ _ _ _ c.min-n.ensures)
       | else-shape w ↦ rw w.t-is (lfe-none _ _ _ _ _ _ _ _ _ c.loop-ch-test.false w.if-shape.false ∙ sym c.loop-ch.invariant.1 ∙ slots-all _ _ _ _ _ _ c.min-n.ensures)
     ]

@@ -1,4 +1,3 @@
-use native.Mathlib.Omega.{arith}
 use Rattle.mantissas.proofs.TallyLaws.{sum-end, sum-on, sum_fits}
 use Rattle.mantissas.proofs.tally.sum.Goals as goal
 
