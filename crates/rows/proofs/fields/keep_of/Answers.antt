@@ -6,8 +6,8 @@ use Rattle.rows.proofs.fields.keep_of.Goals as goal
 
 pub returns-then-w-eq0 : goal.returns-then-w-eq0
 unfolding keep_in
-returns-then-w-eq0 c = (rw (eq-eqb _ _ c.if-w-eq0.true) (no-counters _ _), omega arith)
+returns-then-w-eq0 c = (rw (eq-eqb _ _ c.if-w-eq0.true, c.field-base.ensures) (no-counters _ _), omega arith)
 
-pub returns : goal.returns
+pub returns-else-w-eq0 : goal.returns-else-w-eq0
 unfolding keep_in
-returns c = (rw (ne_eqb _ _ c.if-w-eq0.false, c.spot.ensures.0), c.spot.ensures.1)
+returns-else-w-eq0 c = (rw (ne_eqb _ _ c.if-w-eq0.false, c.spot.ensures.0, c.field-base.ensures, c.field.ensures, c.field-else-w-eq0.ensures), c.spot.ensures.1)

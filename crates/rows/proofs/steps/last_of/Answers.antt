@@ -3,13 +3,10 @@ use Rattle.rows.proofs.StepLaws.{held_plain}
 use borrow.Author.Tests.{eq-eqb, ne_eqb}
 use Rattle.rows.proofs.steps.last_of.Goals as goal
 
-pub returns-then-left-ne0 : goal.returns-then-left-ne0
-returns-then-left-ne0 c = rw (ne_eqb _ _ c.if-left-ne0.true)
-
-pub returns-then-w-ne2 : goal.returns-then-w-ne2
+pub returns-then-w-eq2 : goal.returns-then-w-eq2
 unfolding to_in
-returns-then-w-ne2 c = rw (eq-eqb _ _ c.if-left-ne0.false, ne_eqb _ _ c.if-w-ne2.true)
+returns-then-w-eq2 c = rw (eq-eqb _ _ c.if-left-ne0.false, eq-eqb _ _ c.if-w-eq2.true, c.cell_of.ensures, c.field.ensures) (held_plain _ _)
 
-pub returns : goal.returns
+pub returns-else-w-eq2 : goal.returns-else-w-eq2
 unfolding to_in
-returns c = rw (eq-eqb _ _ c.if-left-ne0.false, eq-eqb _ _ c.if-w-ne2.false, c.cell_of.ensures) (held_plain _ _)
+returns-else-w-eq2 c = rw (eq-eqb _ _ c.if-left-ne0.false, ne_eqb _ _ c.if-w-eq2.false)
