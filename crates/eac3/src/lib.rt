@@ -2,17 +2,33 @@
 #![tactic(auto)]
 
 ghost use Rattle.reading.specs.Room.{room};
+ghost use Rattle.syntax.specs.Rooms.{room_of, SameSlices};
+ghost use Rattle.short_frames.specs.ShortFrames.{up_to};
+ghost use Rattle.annex.specs.Frame.{eac3};
+ghost use Rattle.frame.specs.Parts.{ReadBy};
 ghost use Rattle.eac3.specs.Called.{Called, SettopCalled};
 
 use answer::{Answer, refusal};
 use bits::ByteCount;
 use frame::begun;
 use opening::begin;
+use syntax::room::RecordRoom;
 
 // How many bytes a frame has at most: as many as frmsiz can say, and those of a settop box's frame memory.
 const FULL: u16 = 4096;
 
 const SETTOP: u16 = 1536;
+
+// One frame of at most so many bytes, at the beginning of a slice: the frame, or one refusal, and its records in the room.
+fn read(src: &[u8], room: &mut RecordRoom<'_>, greatest: ByteCount) -> Answer
+    ensures read { ReadBy (up_to greatest.0 eac3) src.now (room_of room.old) result (room_of room.new) }
+    ensures same { SameSlices room.old room.new }
+{
+    match begin(src, room) {
+        Ok(_) => begun(src, room, greatest),
+        Err(stopped) => refusal(stopped),
+    }
+}
 
 // The full entry: one frame of any size, at the beginning of a slice: the frame, or one refusal, and its records in six lent slices, as many as the shortest of
 // them has room for.
@@ -27,20 +43,8 @@ pub fn parse(
 ) -> Answer
     ensures { Called src.now (room names.old blocks.old indexes.old firsts.old widths.old values.old) result (room names.new blocks.new indexes.new firsts.new widths.new values.new) }
 {
-    let cur = begin(src, names, blocks, indexes, firsts, widths, values);
-    if cur.stopped {
-        return refusal(cur);
-    }
-    begun(
-        src,
-        names,
-        blocks,
-        indexes,
-        firsts,
-        widths,
-        values,
-        ByteCount(FULL),
-    )
+    let mut room = RecordRoom::new(names, blocks, indexes, firsts, widths, values);
+    read(src, &mut room, ByteCount(FULL))
 }
 
 // The settop entry: one frame of at most 1,536 bytes; a longer one is refusal 46.
@@ -55,18 +59,6 @@ pub fn parse_settop(
 ) -> Answer
     ensures { SettopCalled src.now (room names.old blocks.old indexes.old firsts.old widths.old values.old) result (room names.new blocks.new indexes.new firsts.new widths.new values.new) }
 {
-    let cur = begin(src, names, blocks, indexes, firsts, widths, values);
-    if cur.stopped {
-        return refusal(cur);
-    }
-    begun(
-        src,
-        names,
-        blocks,
-        indexes,
-        firsts,
-        widths,
-        values,
-        ByteCount(SETTOP),
-    )
+    let mut room = RecordRoom::new(names, blocks, indexes, firsts, widths, values);
+    read(src, &mut room, ByteCount(SETTOP))
 }

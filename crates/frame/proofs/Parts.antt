@@ -19,9 +19,13 @@ use Rattle.short_frames.specs.ShortFrames.{up_to}
 use Rattle.short_frames.specs.Tested.{tested, unfit_by}
 use Rattle.short_frames.proofs.ShortFrames.{parse-is}
 use Rattle.short_frames.proofs.Sizes.{fit-bounds, unfit-tested, fit-tested}
-use Rattle.syntax.specs.Records.{outcome, halted_at}
-use Rattle.syntax.specs.Rooms.{Fills}
+use Rattle.std.specs.Prelude.{Ok, Err}
+use Rattle.refusals.specs.Refusals.{number_of}
+use Rattle.refusals.specs.declared.Refusal.TheVariants.{ShortSlice}
+use Rattle.syntax.specs.Cursors.{Progress}
+use Rattle.syntax.specs.Records.{outcome}
 use Rattle.syntax.specs.declared.Cursor.{Cursor}
+use Rattle.syntax.specs.declared.Stopped.{Stopped}
 use Rattle.slots.specs.Held.{Bins}
 use Rattle.allocation.proofs.MemoLaws.{memo-fresh}
 use Rattle.inputs.specs.Reads.{Right}
@@ -41,34 +45,28 @@ use Rattle.answer.proofs.Laws.{answer-from}
 use Rattle.opening.specs.Opened.{Opened}
 use Rattle.frame.specs.Parts.{placed, followed, read_of, read_by, ReadBy}
 
-followed_then : (c : Cursor) (st : State) (m : Room) (f : State → ℕ → Outcome State)
-    → followed c st m f ≡ (outcome c st m then (λ a p i r. placed i r (f a p)))
+followed_then : (r : Progress) (st : State) (m : Room) (f : State → ℕ → Outcome State)
+    → followed r st m f ≡ (outcome r st m then (λ a p i r. placed i r (f a p)))
 unfolding followed go_on
-followed_then c st m f = go c.stopped
-  where
-    go : (b : Bool)
-        → cond b (got (refused c.number) c.at.0 c.count m) (placed c.count m (f st c.at.0))
-        ≡ go_on (cond b (refused c.number) (accepted st)) c.at.0 c.count m (λ a p i r. placed i r (f a p))
-    go true = refl
-    go false = refl
+followed_then (Ok c) st m f = refl
+followed_then (Err e) st m f = refl
 
 -- a tree, and what follows its run
-pub follows : (s : List ℕ) (l : ℕ) (t : Tree State) (p n : ℕ) (m : Room) (c : Cursor) (st : State) (mu : Room) (f : State → ℕ → Outcome State)
-    → outcome c st mu ≡ exec s l t p n m → followed c st mu f ≡ placed n m (after (run t s p l) f)
-follows s l t p n m c st mu f e =
-    followed_then c st mu f
+pub follows : (s : List ℕ) (l : ℕ) (t : Tree State) (p n : ℕ) (m : Room) (r : Progress) (st : State) (mu : Room) (f : State → ℕ → Outcome State)
+    → outcome r st mu ≡ exec s l t p n m → followed r st mu f ≡ placed n m (after (run t s p l) f)
+follows s l t p n m r st mu f e =
+    followed_then r st mu f
     ∙ ap (λ (o : Out State). o then (λ a p i r. placed i r (f a p))) (e ∙ exec-is s l t p n m)
     ∙ sym (into-after (run t s p l) f n m)
 
 -- a reading that is stopped stays, and one that goes on is followed
-pub stays : (c : Cursor) (st : State) (m : Room) (f : State → ℕ → Outcome State) → c.stopped ≡ true → outcome c st m ≡ followed c st m f
+pub stays : (r : Progress) (e : Stopped) (st : State) (m : Room) (f : State → ℕ → Outcome State) → r ≡ Err e → outcome r st m ≡ followed r st m f
 unfolding followed
-stays c st m f h = rw h refl
+stays r e st m f h = rw h refl
 
-pub goes_on : (c : Cursor) (st : State) (m : Room) (f : State → ℕ → Outcome State) (o : Out State) → c.stopped ≡ false
-    → o ≡ placed c.count m (f st c.at.0) → o ≡ followed c st m f
+pub goes_on : (c : Cursor) (st : State) (m : Room) (f : State → ℕ → Outcome State) (o : Out State) → o ≡ placed c.count m (f st c.at.0) → o ≡ followed (Ok c) st m f
 unfolding followed
-goes_on c st m f o h e = rw h e
+goes_on c st m f o e = e
 
 -- a refusal without records
 none-placed : (k p n : ℕ) (m : Room) → got (refused k) p n m ≡ placed n m (out (refused k) p [])
@@ -76,18 +74,17 @@ unfolding fill cut
 none-placed k p n m = ap (λ i. got (refused k) p i m) (sym (add-zero n))
 
 -- a tree whose result is not used
-drops : (s : List ℕ) (l : ℕ) (t : Tree State) (st : State) (p n : ℕ) (m : Room) (c : Cursor) (x : State) (mu : Room)
-    → outcome c x mu ≡ exec s l t p n m → outcome c st mu ≡ exec s l (t >>= (λ _. done st)) p n m
+drops : (s : List ℕ) (l : ℕ) (t : Tree State) (st : State) (p n : ℕ) (m : Room) (r : Progress) (x : State) (mu : Room)
+    → outcome r x mu ≡ exec s l t p n m → outcome r st mu ≡ exec s l (t >>= (λ _. done st)) p n m
 unfolding exec go_on
-drops s l t st p n m c x mu e =
-    go c.stopped
+drops s l t st p n m r x mu e =
+    go r
     ∙ ap (λ (o : Out State). o then (λ a p n m. exec s l (done st) p n m)) e
     ∙ sym (exec-bind s l t (λ _. done st) p n m)
   where
-    go : (b : Bool) → got (cond b (refused c.number) (accepted st)) c.at.0 c.count mu
-        ≡ go_on (cond b (refused c.number) (accepted x)) c.at.0 c.count mu (λ a p n m. got (accepted st) p n m)
-    go true = refl
-    go false = refl
+    go : (r : Progress) → outcome r st mu ≡ (outcome r x mu then (λ a p n m. exec s l (done st) p n m))
+    go (Ok c) = refl
+    go (Err e) = refl
 
 -- the tail's rows, run on cells of their own
 module _ (s : List ℕ) (l p : ℕ) (fits : l < 65536) (small : p < 65536) where
@@ -107,7 +104,7 @@ module _ (s : List ℕ) (l p : ℕ) (fits : l < 65536) (small : p < 65536) where
         ahead = cell_same _ AUXDATAE _ g (λ e. omega arith) ∙ omega arith;
       }
 
-  pub tail-outcome : (q : ℕ) → q ≡ p → (b : Bins) (n : ℕ) (m : Room) (r : Cursor) (st x : State) (mu : Room) (cells : List ℕ) → cells ≡ ends
+  pub tail-outcome : (q : ℕ) → q ≡ p → (b : Bins) (n : ℕ) (m : Room) (r : Progress) (st x : State) (mu : Room) (cells : List ℕ) → cells ≡ ends
       → outcome r x mu ≡ exec s l (meaning tail (state cells b)) q n m → outcome r st mu ≡ placed n m (finish tail_names s l st p)
   unfolding finish
   tail-outcome q eq b n m r st x mu cells ec e =
@@ -126,25 +123,19 @@ right-start = record {
   memo = memo-fresh (replicate 1792 0) (replicate 1792 0) (length-replicate {A = ℕ} 1792 0);
 }
 
--- a call keeps the room
-pub kept_fills : {y : Room} (most a b c d e f : ℕ) → most ≡ min a (min b (min c (min d (min e f)))) → length y.names ≡ a → length y.blocks ≡ b → length y.indexes ≡ c
-    → length y.firsts ≡ d → length y.widths ≡ e → length y.values ≡ f → Fills most y
-unfolding size
-kept_fills most a b c d e f h n bl ix fi wi va = record { is = rw (n, bl, ix, fi, wi, va) (sym h) }
-
 -- the header of a slice, and the frame after it
-pub begins : (g : ℕ) (s : List ℕ) (m : Room) (c : Cursor) (st : State) (mu : Room) → outcome c st mu ≡ exec s 48 (header_by eac3 (seen eac3 s)) 0 0 m
+pub begins : (g : ℕ) (s : List ℕ) (m : Room) (c : Progress) (st : State) (mu : Room) → outcome c st mu ≡ exec s 48 (header_by eac3 (seen eac3 s)) 0 0 m
     → followed c st mu (tested g eac3 s) ≡ placed 0 m (read_of g s)
 unfolding read_of
 begins g s m c st mu e = follows s 48 (header_by eac3 (seen eac3 s)) 0 0 m c st mu (tested g eac3 s) e
 
 -- with a good bsid all items of the header are read
-module _ (s : List ℕ) (m : Room) (c : Cursor) (st : State) (mu : Room) (fresh : outcome c st mu ≡ exec s 48 (meaning header start) 0 0 m) where
+module _ (s : List ℕ) (m : Room) (c : Progress) (st : State) (mu : Room) (fresh : outcome c st mu ≡ exec s 48 (meaning header start) 0 0 m) where
   -- frmsiz is at most 2047
-  pub small_size : c.stopped ≡ false → cell_of st.cells FRMSIZ < 2048
-  small_size h =
+  pub small_size : (k : Cursor) → c ≡ Ok k → cell_of st.cells FRMSIZ < 2048
+  small_size k h =
       let w : (cut (size m - 0) (run (meaning header start) s 0 48)).result ≡ accepted st
-      = ap (λ (o : Out State). o.result) (sym (fresh ∙ exec-is s 48 (meaning header start) 0 0 m)) ∙ ap (λ b. cond b (refused c.number) (accepted st)) h in
+      = ap (λ (o : Out State). o.result) (sym (fresh ∙ exec-is s 48 (meaning header start) 0 0 m)) ∙ ap (λ (d : Progress). (outcome d st mu).result) h in
       let u : cut (size m - 0) (run (meaning header start) s 0 48) ≡ run (meaning header start) s 0 48
       = cut-same (size m - 0) (run (meaning header start) s 0 48) (λ q. let z : ◌≡◌ {A = ℕ} 0 1 = cc in omega arith) in
       let g : cell_of st.cells FRMSIZ ≡ bits_at s 21 11 = ((sized-is s).gives st (ap (λ (o : Outcome State). o.result) (sym u) ∙ w)).size in
@@ -155,38 +146,38 @@ module _ (s : List ℕ) (m : Room) (c : Cursor) (st : State) (mu : Room) (fresh 
   begins-good g k = begins g s m c st mu (fresh ∙ ap (λ (t : Tree State). exec s 48 t 0 0 m) (sym (header_of (seen eac3 s) k)))
 
 -- what follows the header
-module _ (g : ℕ) (s : List ℕ) (c : Cursor) (st : State) (m : Room) (live : c.stopped ≡ false) (small : cell_of st.cells FRMSIZ < 2048)
+module _ (g : ℕ) (s : List ℕ) (c : Cursor) (st : State) (m : Room) (small : cell_of st.cells FRMSIZ < 2048)
     (n : ℕ) (en : n ≡ 2 * (cell_of st.cells FRMSIZ % 2048 + 1)) where
   whole-size : n ≡ bytes_of st
   whole-size = let z : cell_of st.cells FRMSIZ % 2048 ≡ cell_of st.cells FRMSIZ = omega arith in en ∙ ap (λ k. 2 * (k + 1)) z
 
-  pub unfit-stops : (k : ℕ) (r : Cursor) → k ≡ unfit_by g n (length s) → 0 < k → r ≡ halted_at c.at.0 c.count k → outcome r st m ≡ followed c st m (tested g eac3 s)
+  pub unfit-stops : (k : ℕ) → k ≡ unfit_by g n (length s) → 0 < k → got (refused k) c.at.0 c.count m ≡ followed (Ok c) st m (tested g eac3 s)
   unfolding eac3
-  unfit-stops k r e i q =
-      goes_on c st m (tested g eac3 s) _ live
-      (rw (q, unfit-tested eac3 s st c.at.0 g k i (e ∙ ap (λ b. unfit_by g b (length s)) whole-size)) (none-placed k c.at.0 c.count m))
+  unfit-stops k e i =
+      goes_on c st m (tested g eac3 s) _
+      (rw (unfit-tested eac3 s st c.at.0 g k i (e ∙ ap (λ b. unfit_by g b (length s)) whole-size)) (none-placed k c.at.0 c.count m))
 
   -- the body, and what follows it
-  module _ (k : ℕ) (ek : k ≡ unfit_by g n (length s)) (h : k ≤ 0) (l : ℕ) (el : l ≡ 8 * n) (d : Cursor) (su : State) (mu : Room) (e : outcome d su mu ≡ exec s l (meaning body st) c.at.0 c.count m) where
-    pub whole : (o : Out State) → o ≡ followed d su mu (finish tail_names s l) → o ≡ followed c st m (tested g eac3 s)
+  module _ (k : ℕ) (ek : k ≡ unfit_by g n (length s)) (h : k ≤ 0) (l : ℕ) (el : l ≡ 8 * n) (d : Progress) (su : State) (mu : Room) (e : outcome d su mu ≡ exec s l (meaning body st) c.at.0 c.count m) where
+    pub whole : (o : Out State) → o ≡ followed d su mu (finish tail_names s l) → o ≡ followed (Ok c) st m (tested g eac3 s)
     unfolding eac3 framed
     whole o q =
         let f = fit-bounds g n (length s) k ek h in
         let x : bytes_of st ≤ g = omega (arith, whole-size, f.0) in
         let y : bytes_of st ≤ length s = omega (arith, whole-size, f.1) in
-        goes_on c st m (tested g eac3 s) _ live
+        goes_on c st m (tested g eac3 s) _
         (rw (fit-tested eac3 s st c.at.0 g x y)
         (q ∙ follows s l (meaning body st) c.at.0 c.count m d su mu (finish tail_names s l) e
         ∙ ap (λ k. placed c.count m (after (run (meaning body st) s c.at.0 k) (finish tail_names s k))) (el ∙ ap (λ k. 8 * k) whole-size)))
 
-    pub body-stops : d.stopped ≡ true → outcome d su mu ≡ followed c st m (tested g eac3 s)
-    body-stops x = whole _ (stays d su mu (finish tail_names s l) x)
+    pub body-stops : (x : Stopped) → d ≡ Err x → outcome (Err x) su mu ≡ followed (Ok c) st m (tested g eac3 s)
+    body-stops x h = sym (ap (λ (r : Progress). outcome r su mu) h) ∙ whole _ (stays d x su mu (finish tail_names s l) h)
 
-    pub tail-follows : d.stopped ≡ false → (r : Cursor) (mt : Room) → outcome r su mt ≡ placed d.count mu (finish tail_names s l su d.at.0) → outcome r su mt ≡ followed c st m (tested g eac3 s)
-    tail-follows x r mt q = whole _ (goes_on d su mu (finish tail_names s l) _ x q)
+    pub tail-follows : (k : Cursor) → d ≡ Ok k → (r : Progress) (mt : Room) → outcome r su mt ≡ placed k.count mu (finish tail_names s l su k.at.0) → outcome r su mt ≡ followed (Ok c) st m (tested g eac3 s)
+    tail-follows k h r mt q = whole _ (goes_on k su mu (finish tail_names s l) _ q ∙ ap (λ (r : Progress). followed r su mu (finish tail_names s l)) (sym h))
 
 module _ (s : List ℕ) (m : Room) where
-  pub whole-answer : (g : ℕ) (c : Cursor) (st : State) (mu : Room) (a : Answer) → 6 ≤ length s → outcome c st mu ≡ placed 0 m (read_of g s) → a ≡ answer_from c st.cells
+  pub whole-answer : (g : ℕ) (c : Progress) (st : State) (mu : Room) (a : Answer) → 6 ≤ length s → outcome c st mu ≡ placed 0 m (read_of g s) → a ≡ answer_from c st.cells
       → ReadBy (up_to g eac3) s m a mu
   unfolding read_of
   whole-answer g c st mu a h e ea =
@@ -195,24 +186,31 @@ module _ (s : List ℕ) (m : Room) where
       let w : outcome c st mu ≡ read_by (up_to g eac3) s m = e ∙ ap (λ k. into 0 m (cut k (read_of g s))) z ∙ ap (λ (o : Outcome State). into 0 m (cut (size m) o)) p in
       record { answer = ea ∙ answer-from c st mu ∙ ap answer_of w; left = ap (λ (o : Out State). o.left) w }
 
-  pub short-answer : (g : ℕ) (c : Cursor) (a : Answer) → length s < 6 → c ≡ halted_at 0 0 1 → a ≡ refusal_from c → ReadBy (up_to g eac3) s m a m
+  pub short-answer : (g : ℕ) (e : Stopped) (a : Answer) → length s < 6 → e ≡ record { refusal = ShortSlice; at = record { 0 = 0 }; count = 0 } → a ≡ refusal_from e → ReadBy (up_to g eac3) s m a m
   unfolding answer_of cut fill
-  short-answer g c a h k e =
+  short-answer g e a h k q =
       let p : parse (up_to g eac3) s ≡ out (refused 1) 0 [] = parse-is g eac3 s ∙ rw (lt-leb 6 (length s) h) refl in
-      record { answer = rw (e, k, p) refl; left = rw p refl }
+      record { answer = rw (q, k, p) refl; left = rw p refl }
+
+stopped-is : {x y : Stopped} → ◌≡◌ {A = Progress} (Err x) (Err y) → x ≡ y
+stopped-is {x} h = ap (λ (r : Progress). of r) h
+  where
+    of : Progress → Stopped
+    of (Ok c) = x
+    of (Err e) = e
 
 -- a slice that is refused where it is opened, and one that is begun
-module _ (g : ℕ) (s : List ℕ) (m : Room) (c : Cursor) (mu : Room) (o : Opened s m c mu) where
-  pub opened-answer : c.stopped ≡ true → (a : Answer) → a ≡ refusal_from c → ReadBy (up_to g eac3) s m a mu
-  opened-answer x a e = by (dec_lt (length s) 6)
+module _ (g : ℕ) (s : List ℕ) (m : Room) (r : Progress) (mu : Room) (o : Opened s m r mu) where
+  pub opened-answer : (e : Stopped) → r ≡ Err e → (a : Answer) → a ≡ refusal_from e → ReadBy (up_to g eac3) s m a mu
+  opened-answer e x a q = by (dec_lt (length s) 6)
     where
       by : Dec (length s < 6) → ReadBy (up_to g eac3) s m a mu
       by (yes h) =
           let t = o.short h in
-          subst (ReadBy (up_to g eac3) s m a) (sym t.left) (short-answer s m g c a h t.is e)
+          subst (ReadBy (up_to g eac3) s m a) (sym t.left) (short-answer s m g e a h (stopped-is (sym x ∙ t.is)) q)
       by (no h) =
           let l : 6 ≤ length s = omega arith in
-          whole-answer s m g c start mu a l (stays c start mu (tested g eac3 s) x ∙ begins g s m c start mu (o.stops x l)) (rw x e)
+          whole-answer s m g r start mu a l (stays r e start mu (tested g eac3 s) x ∙ begins g s m r start mu (o.stops e x l)) (rw x q)
 
-  pub begun-answer : c.stopped ≡ false → (a : Answer) (mt : Room) → ReadBy (up_to g eac3) s mu a mt → ReadBy (up_to g eac3) s m a mt
-  begun-answer x a mt h = subst (λ (y : Room). ReadBy (up_to g eac3) s y a mt) (o.goes x).left h
+  pub begun-answer : (c : Cursor) → r ≡ Ok c → (a : Answer) (mt : Room) → ReadBy (up_to g eac3) s mu a mt → ReadBy (up_to g eac3) s m a mt
+  begun-answer c x a mt h = subst (λ (y : Room). ReadBy (up_to g eac3) s y a mt) (o.goes c x).left h

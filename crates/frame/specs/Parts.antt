@@ -1,11 +1,12 @@
 -- What the parts of a frame tell, in the terms of the definition of a frame (reading/specs/Frame.antt).
-use Rattle.std.specs.Prelude.{◌≡◌, false, cond, List, ℕ, ◌-◌, ◌<◌}
+use Rattle.std.specs.Prelude.{◌≡◌, List, ℕ, ◌-◌, ◌<◌, Ok, Err}
+use Rattle.refusals.specs.Refusals.{number_of}
 use Rattle.reading.specs.Run.{refused, Outcome, after}
 use Rattle.reading.specs.Frame.{Format, headed, parse}
 use Rattle.reading.specs.Room.{Room, size, cut, Out, got, into}
 use Rattle.short_frames.specs.Tested.{tested}
 use Rattle.syntax.specs.Records.{outcome}
-use Rattle.syntax.specs.Rooms.{Fills}
+use Rattle.syntax.specs.Cursors.{Progress}
 use Rattle.syntax.specs.declared.Cursor.{Cursor}
 use Rattle.slots.specs.Held.{Bins}
 use Rattle.inputs.specs.Reads.{Right}
@@ -21,20 +22,20 @@ abbrev pub placed : ℕ → Room → Outcome State → Out State
 placed n m o = into n m (cut (size m - n) o)
 
 -- a reading followed by more: a refusal stays
-unfoldable pub followed : Cursor → State → Room → (State → ℕ → Outcome State) → Out State
-followed c st m f = cond c.stopped (got (refused c.number) c.at.0 c.count m) (placed c.count m (f st c.at.0))
+unfoldable pub followed : Progress → State → Room → (State → ℕ → Outcome State) → Out State
+followed (Ok c) st m f = placed c.count m (f st c.at.0)
+followed (Err e) st m f = got (refused (number_of e.refusal)) e.at.0 e.count m
 
--- what follows the header asks: the rows of Annex E, exponents and allocations that are right, the room, and a size that frmsiz can say
-pub record Headed (t cells : List ℕ) (b : Bins) (mem : List ℕ) (most : ℕ) (m : Room) (c : Cursor) : Type 0 where
+-- what follows the header asks: the rows of Annex E, exponents and allocations that are right, and a size that frmsiz can say
+pub record Headed (t cells : List ℕ) (b : Bins) (mem : List ℕ) : Type 0 where
   pub annexed : Annexed t
   pub right : Right mem b
-  pub fills : Fills most m
-  pub small : c.stopped ≡ false → cell_of cells FRMSIZ < 2048
+  pub small : cell_of cells FRMSIZ < 2048
 
 -- what it tells, of frames up to the greatest: the frame after its header, with the cells that the body left
-pub record Framed (greatest : ℕ) (s : List ℕ) (c : Cursor) (st : State) (m : Room) (r : Cursor) (cells : List ℕ) (m' : Room) : Type 0 where
+pub record Framed (greatest : ℕ) (s : List ℕ) (c : Cursor) (st : State) (m : Room) (r : Progress) (cells : List ℕ) (m' : Room) : Type 0 where
   pub bins : Bins
-  pub is : outcome r (state cells bins) m' ≡ followed c st m (tested greatest eac3 s)
+  pub is : outcome r (state cells bins) m' ≡ followed (Ok c) st m (tested greatest eac3 s)
 
 -- a slice of 6 bytes or more
 unfoldable pub read_of : ℕ → List ℕ → Outcome State

@@ -2,7 +2,7 @@
 #![tactic(auto)]
 
 ghost use Rattle.std.specs.Prelude.{◌≡◌, ◌+◌, ◌*◌, ◌%◌, ◌≤◌};
-ghost use Rattle.reading.specs.Room.{room};
+ghost use Rattle.syntax.specs.Rooms.{room_of, SameSlices};
 ghost use Rattle.slots.specs.Held.{bins};
 ghost use Rattle.cells.specs.Cells.{state, cell_of};
 ghost use Rattle.cells.specs.Names.{FRMSIZ as frmsiz};
@@ -12,12 +12,13 @@ ghost use Rattle.short_frames.specs.ShortFrames.{up_to};
 ghost use Rattle.frame.specs.Parts.{Headed, Framed, ReadBy};
 
 use annex::annex;
-use answer::{Answer, answer_of};
+use answer::{Answer, answer_of, refusal};
 use bits::{BitPlace, ByteCount};
 use cells::cell_of;
 use cells::numbers::FRMSIZ;
 use short_frames::unfit;
-use syntax::{Cursor, halted, least};
+use syntax::room::RecordRoom;
+use syntax::{Cursor, Stopped};
 use tail::tail_cells;
 use walk::each;
 
@@ -40,120 +41,85 @@ fn bytes_of(cells: &[u16; 1024]) -> ByteCount
 // The frame after its header, if it is not above the greatest and the slice holds it: the body, and then the tail.
 fn framed(
     src: &[u8],
-    names: &mut [u8],
-    blocks: &mut [i8],
-    indexes: &mut [i16],
-    firsts: &mut [u16],
-    widths: &mut [u16],
-    values: &mut [u32],
+    room: &mut RecordRoom<'_>,
     table: &[u64; 510],
     cells: &mut [u16; 1024],
     exps: &mut [u8; 1792],
     baps: &mut [u8; 1792],
     memo: &mut [u64; 42],
-    most: usize,
     greatest: ByteCount,
     cur: Cursor,
-) -> Cursor
-    requires { Headed table.now cells.old (bins exps.old baps.old) memo.old most (room names.old blocks.old indexes.old firsts.old widths.old values.old) cur }
-    ensures { Framed greatest.0 src.now cur (state cells.old (bins exps.old baps.old)) (room names.old blocks.old indexes.old firsts.old widths.old values.old)
-        result cells.new (room names.new blocks.new indexes.new firsts.new widths.new values.new) }
+) -> Result<Cursor, Stopped>
+    requires { Headed table.now cells.old (bins exps.old baps.old) memo.old }
+    ensures framed { Framed greatest.0 src.now cur (state cells.old (bins exps.old baps.old)) (room_of room.old) result cells.new (room_of room.new) }
+    ensures same { SameSlices room.old room.new }
 {
-    if cur.stopped {
-        return cur;
-    }
     let bytes = bytes_of(cells);
-    let number = unfit(greatest, bytes, src.len());
-    if 0 < number {
-        return halted(cur.at, cur.count, number);
+    if let Some(refusal) = unfit(greatest, bytes, src.len()) {
+        return Err(cur.stop(refusal));
     }
     let limit = bytes.bits();
-    let c = each(
+    let end = each(
         table,
         src,
-        names,
-        blocks,
-        indexes,
-        firsts,
-        widths,
-        values,
+        room,
         cells,
         exps,
         baps,
         memo,
-        cur.at,
-        cur.count,
+        cur,
         limit,
-        most,
         AFTER_HEADER,
         AFTER_BODY,
         0,
         ONCE,
         0,
-    );
-    if c.stopped {
-        return c;
-    }
+    )?;
     let mut ends = tail_cells(src, limit);
     each(
-        table, src, names, blocks, indexes, firsts, widths, values, &mut ends, exps, baps, memo,
-        c.at, c.count, limit, most, AFTER_BODY, AFTER_TAIL, 0, ONCE, 0,
+        table, src, room, &mut ends, exps, baps, memo, end, limit, AFTER_BODY, AFTER_TAIL, 0, ONCE,
+        0,
     )
 }
 
 // A frame of at most so many bytes, where the slice begins like one: table, cells and bins are laid, and header, body and tail are run.
-pub fn begun(
-    src: &[u8],
-    names: &mut [u8],
-    blocks: &mut [i8],
-    indexes: &mut [i16],
-    firsts: &mut [u16],
-    widths: &mut [u16],
-    values: &mut [u32],
-    greatest: ByteCount,
-) -> Answer
+pub fn begun(src: &[u8], room: &mut RecordRoom<'_>, greatest: ByteCount) -> Answer
     requires { Begun src.now }
-    ensures { ReadBy (up_to greatest.0 eac3) src.now (room names.old blocks.old indexes.old firsts.old widths.old values.old) result (room names.new blocks.new indexes.new firsts.new widths.new values.new) }
+    ensures read { ReadBy (up_to greatest.0 eac3) src.now (room_of room.old) result (room_of room.new) }
+    ensures same { SameSlices room.old room.new }
 {
     let table = annex();
     let mut cells: [u16; 1024] = [0; 1024];
     let mut exps: [u8; 1792] = [0; 1792];
     let mut baps: [u8; 1792] = [0; 1792];
     let mut memo: [u64; 42] = [0; 42];
-    let most = least(
-        names.len(),
-        blocks.len(),
-        indexes.len(),
-        firsts.len(),
-        widths.len(),
-        values.len(),
-    );
-    let cur = each(
+    let start = Cursor {
+        at: BitPlace(0),
+        count: 0,
+    };
+    let header = each(
         &table,
         src,
-        names,
-        blocks,
-        indexes,
-        firsts,
-        widths,
-        values,
+        room,
         &mut cells,
         &mut exps,
         &mut baps,
         &mut memo,
-        BitPlace(0),
-        0,
+        start,
         BitPlace(48),
-        most,
         0,
         AFTER_HEADER,
         0,
         ONCE,
         0,
     );
-    let c = framed(
-        src, names, blocks, indexes, firsts, widths, values, &table, &mut cells, &mut exps,
-        &mut baps, &mut memo, most, greatest, cur,
-    );
-    answer_of(c, &cells)
+    match header {
+        Ok(cur) => {
+            let read = framed(
+                src, room, &table, &mut cells, &mut exps, &mut baps, &mut memo, greatest, cur,
+            );
+            answer_of(read, &cells)
+        }
+        Err(stopped) => refusal(stopped),
+    }
 }

@@ -2,19 +2,20 @@
 #![tactic(auto)]
 
 ghost use Rattle.std.specs.Prelude.{◌≡◌};
-ghost use Rattle.short_frames.specs.Tested.{unfit_by};
+ghost use Rattle.short_frames.specs.Tested.{unfit_by, number_if};
 
 use bits::ByteCount;
+use refusals::Refusal;
 
-// The refusal of a frame of so many bytes: 46 where it is above the greatest, 4 where the slice does not hold it, or 0.
-pub fn unfit(greatest: ByteCount, bytes: ByteCount, long: usize) -> u8
-    ensures { result ≡ unfit_by greatest.0 bytes.0 long }
+// The refusal of a frame of so many bytes: it is above the greatest, or the slice does not hold it.
+pub fn unfit(greatest: ByteCount, bytes: ByteCount, long: usize) -> Option<Refusal>
+    ensures { number_if result ≡ unfit_by greatest.0 bytes.0 long }
 {
     if greatest.0 < bytes.0 {
-        return 46;
+        return Some(Refusal::LongFrame);
     }
     if long < bytes.0 as usize {
-        return 4;
+        return Some(Refusal::ShortFrame);
     }
-    0
+    None
 }
