@@ -1,12 +1,13 @@
 -- Laws of what is kept of an allocation: words and their bytes; a slot is found again, made stale, noted. Assumes nothing.
 use Rattle.std.specs.Prelude.{Option, Some, None}
 use mathlib.Core.Path.{◌≡◌, refl, ap, sym, subst, ◌∙◌}
-use mathlib.Core.Bool.{Bool, true, false, cond}
+use mathlib.Core.Bool.{Bool, true, false, not, cond}
 use mathlib.Core.List.{List, [], ◌∷◌, ◌++◌}
 use mathlib.Core.Logic.{by_cases}
 use Prim.Native.Nat.{ℕ, zero, suc, ◌+◌, ◌-◌, ◌*◌, ◌/◌, ◌%◌, ◌≤◌, ◌<◌, min}
 use native.Mathlib.Omega.{arith}
 use native.Mathlib.Decide.{ℕ_discrete, dec_lt}
+use Rattle.std.specs.Int.{w16, w64, to_le_bytes, from_le_bytes, from_bool}
 use lib.Dec.{eqb, ltb}
 use lib.ListN.{length, get_or, take, drop, set, replicate, length-set, length-replicate, get_or-replicate}
 use lib.Seq.{ext_get_or, get_or-set_same, get_or-set_other, get_or-take, get_or-drop}
@@ -78,12 +79,38 @@ packs w a b c d e f g h la lb lc ld le lf lg lh q = record {
       (byte-on a _ 6 la ∙ byte-on b _ 5 lb ∙ byte-on c _ 4 lc ∙ byte-on d _ 3 ld ∙ byte-on e _ 2 le ∙ byte-on f _ 1 lf ∙ byte-on g _ 0 lg ∙ byte_last h lh) k l;
 }
 
--- as the code makes a word
-pub word-packs : (a b c d e f g h a' b' c' d' e' f' g' h' : ℕ) → a' ≡ a → b' ≡ b → c' ≡ c → d' ≡ d → e' ≡ e → f' ≡ f → g' ≡ g → h' ≡ h
-    → a' < 256 → b' < 256 → c' < 256 → d' < 256 → e' < 256 → f' < 256 → g' < 256 → h' < 256
-    → Packs (a ∷ b ∷ c ∷ d ∷ e ∷ f ∷ g ∷ h ∷ []) (a' + 256 * b' + 65536 * c' + 16777216 * d' + 4294967296 * (e' + 256 * f' + 65536 * g' + 16777216 * h'))
-word-packs a b c d e f g h a' b' c' d' e' f' g' h' ea eb ec ed ee ef eg eh la lb lc ld le lf lg lh =
-    packs _ a b c d e f g h (omega arith) (omega arith) (omega arith) (omega arith) (omega arith) (omega arith) (omega arith) (omega arith) (omega arith)
+-- the word of eight bytes, and the bytes of a word
+pub word-packs : (bs : List ℕ) (w : ℕ) → ((i : ℕ) → i < 8 → get_or bs i 0 < 256) → w ≡ from_le_bytes w64 bs → Packs bs w
+word-packs bs w small q =
+    let p = packs w (get_or bs 0 0) (get_or bs 1 0) (get_or bs 2 0) (get_or bs 3 0) (get_or bs 4 0) (get_or bs 5 0) (get_or bs 6 0) (get_or bs 7 0)
+    (small 0 (omega arith)) (small 1 (omega arith)) (small 2 (omega arith)) (small 3 (omega arith)) (small 4 (omega arith)) (small 5 (omega arith)) (small 6 (omega arith)) (small 7 (omega arith)) (omega arith) in
+    record {
+      bytes = λ k l. each-of-eight (λ k. byte_of w k ≡ get_or bs k 0)
+          (p.bytes 0 (omega arith)) (p.bytes 1 (omega arith)) (p.bytes 2 (omega arith)) (p.bytes 3 (omega arith)) (p.bytes 4 (omega arith)) (p.bytes 5 (omega arith)) (p.bytes 6 (omega arith)) (p.bytes 7 (omega arith)) k l;
+    }
+
+pub bytes-are : (w : ℕ) → to_le_bytes w64 w ≡ eight_in w
+unfolding byte_of
+bytes-are w = ext_get_or 0 (to_le_bytes w64 w) (eight_in w) refl (λ k l. each-of-eight (λ k. get_or (to_le_bytes w64 w) k 0 ≡ get_or (eight_in w) k 0)
+    (omega arith) (omega arith) (omega arith) (omega arith) (omega arith) (omega arith) (omega arith) (omega arith) k l)
+
+pub eight-small : {a b c d e f g h : ℕ} → a < 256 → b < 256 → c < 256 → d < 256 → e < 256 → f < 256 → g < 256 → h < 256 → (i : ℕ) → i < 8 → get_or (a ∷ b ∷ c ∷ d ∷ e ∷ f ∷ g ∷ h ∷ []) i 0 < 256
+eight-small {a} {b} {c} {d} {e} {f} {g} {h} la lb lc ld le lf lg lh = each-of-eight (λ i. get_or (a ∷ b ∷ c ∷ d ∷ e ∷ f ∷ g ∷ h ∷ []) i 0 < 256) la lb lc ld le lf lg lh
+
+-- the word of eight entries of a list of bytes
+pub chunk-packs : (xs ys : List ℕ) (k n w : ℕ) → ((i : ℕ) → get_or xs i 0 < 256) → 8 ≤ n → ys ≡ take 8 (take n (drop k xs)) → w ≡ from_le_bytes w64 ys → Packs (eight_of xs k) w
+chunk-packs xs ys k n w small h e q =
+    let z : k + 0 ≡ k = omega arith in
+    record {
+      bytes = λ i l. each-of-eight (λ i. byte_of w i ≡ get_or (eight_of xs k) i 0)
+          (at 0 (omega arith) ∙ ap (λ j. get_or xs j 0) z) (at 1 (omega arith)) (at 2 (omega arith)) (at 3 (omega arith)) (at 4 (omega arith)) (at 5 (omega arith)) (at 6 (omega arith)) (at 7 (omega arith)) i l;
+    }
+  where
+    here : (i : ℕ) → i < 8 → get_or ys i 0 ≡ get_or xs (k + i) 0
+    here i l = ap (λ x. get_or x i 0) e ∙ get_or-take 8 (take n (drop k xs)) i 0 l ∙ get_or-take n (drop k xs) i 0 (omega arith) ∙ get_or-drop k xs i 0
+
+    at : (i : ℕ) → i < 8 → byte_of w i ≡ get_or xs (k + i) 0
+    at i l = (word-packs ys w (λ i l. rw (here i l) (small (k + i))) q).bytes i l ∙ here i l
 
 packs-is : (xs : List ℕ) (w : ℕ) → length xs ≡ 8 → Packs xs w → eight_in w ≡ xs
 packs-is xs w n p = ext_get_or 0 (eight_in w) xs (sym n) (λ k l. each-of-eight (λ k. get_or (eight_in w) k 0 ≡ get_or xs k 0)
@@ -116,7 +143,7 @@ module _ (q : Codes) (st : AllocState) (fscod w : ℕ) (p : Packs (q.sdcycod ∷
   common-coded c = record { fast = rw (p.bytes 6 (omega arith)) c.fast; slow = rw (p.bytes 7 (omega arith)) c.slow; rate = rw (p.bytes 5 (omega arith)) c.rate }
 
 -- the word of what a slot has of its own
-kind-is : (b : Bool) (x : ℕ) → x ≡ cond b 2 1 → (cond (eqb x 2) Hebap Bap ≡ cond b Hebap Bap) × (0 < x)
+kind-is : (b : Bool) (x : ℕ) → x ≡ 1 + from_bool b → (cond (eqb x 2) Hebap Bap ≡ cond b Hebap Bap) × (0 < x)
 kind-is true x e = (rw e, omega arith)
 kind-is false x e = (rw e, omega arith)
 
@@ -124,7 +151,7 @@ made : (w : ℕ) → 0 < byte_of w 1 → 0 < w
 unfolding byte_of
 made w h = omega arith
 
-end_is : (t : Bool) (x e : ℕ) → x ≤ 253 → e ≡ cond t 0 (x % 256) → min e 253 ≡ cond t 0 x
+end_is : (t : Bool) (x e : ℕ) → x ≤ 253 → e ≡ x % 256 * from_bool (not t) → min e 253 ≡ cond t 0 x
 end_is true x e h q = omega arith
 end_is false x e h q = omega arith
 
@@ -132,10 +159,11 @@ never : (t u : Bool) → t ≡ u → t ≡ true → u ≡ false → ⊥
 never t u e f g = let z : ◌≡◌ {A = Bool} true false = sym f ∙ e ∙ g in let y : ◌≡◌ {A = ℕ} 0 1 = cc in omega arith
 
 pub owned : (st : AllocState) (shape : Shape) (silent : Bool) (slot w n k a b e : ℕ) (r : Range) (t asked : Bool) → silent ≡ silent_of st shape → asked ≡ requested_of shape slot → asked ≡ true
-    → t ≡ get_or shape.ahtinu slot false → k ≡ cond t 2 1 → r ≡ range_of shape slot → r.end ≤ 253 → a ≡ r.start % 256 → b ≡ r.start / 256 → e ≡ cond silent 0 (r.end % 256)
+    → t ≡ get_or shape.ahtinu slot false → k ≡ 1 + from_bool t → r ≡ range_of shape slot → r.end ≤ 253 → r.start < 65536 → a ≡ get_or (to_le_bytes w16 r.start) 0 0 → b ≡ get_or (to_le_bytes w16 r.start) 1 0
+    → e ≡ r.end % 256 * from_bool (not silent)
     → Packs (n ∷ k ∷ a ∷ b ∷ e ∷ get_or st.fgaincod slot 0 ∷ st.csnroffst ∷ get_or st.fsnroffst slot 0 ∷ []) w → Owned w st shape n slot
 unfolding kind_of channel_of
-owned st shape silent slot w n k a b e r t asked es ea et eh ek er he es' eb ee p =
+owned st shape silent slot w n k a b e r t asked es ea et eh ek er he hs es' eb ee p =
     let kinds = kind-is t (byte_of w 1) (p.bytes 1 (omega arith) ∙ ek) in
     let starts : start_by w ≡ r.start = let x : byte_of w 2 ≡ a = p.bytes 2 (omega arith) in let y : byte_of w 3 ≡ b = p.bytes 3 (omega arith) in omega arith in
     let ends = end_is silent r.end (byte_of w 4) he (p.bytes 4 (omega arith) ∙ ee) in

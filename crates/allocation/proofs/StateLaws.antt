@@ -8,8 +8,10 @@ use Prim.Native.Nat.{ℕ, zero, suc, ◌+◌, ◌-◌, ◌*◌, ◌≤◌, ◌<�
 use native.Mathlib.Omega.{arith}
 use native.Mathlib.Decide.{ℕ_discrete, dec_lt}
 use lib.Dec.{leb, ltb}
-use lib.ListN.{length, get_or, take, drop, replicate, length-append, length-drop, get_or-append}
+use lib.ListN.{length, get_or, take, drop, replicate, length-append, length-drop, get_or-append, get_or-replicate}
 use lib.Seq.{ext_get_or, length-take-le, get_or-take, get_or-drop, get_or-append-add}
+use Rattle.std.specs.Prelude.{Option, Some, None, Ok, Err}
+use Rattle.refusals.specs.declared.Refusal.TheVariants.{ParametersNeverSent}
 use Rattle.alloc.specs.Allocation.{tab, pointer, allocation, deltaed}
 use Rattle.alloc.specs.Premises.{Exponents}
 use borrow.Author.Tests.{ltb-true, le-ltb}
@@ -26,8 +28,6 @@ use Rattle.slots.specs.declared.Shape.{Shape}
 use Rattle.allocation.specs.declared.AllocState.{AllocState}
 use Rattle.allocation.specs.declared.Segments.{Segments}
 use Rattle.allocation.specs.declared.Codes.{Codes}
-use Rattle.allocation.specs.declared.Parameters.{Parameters}
-use Rattle.allocation.specs.declared.Parameters.TheVariants.{NeverSent, Sent}
 
 -- the part of a list that a slot has
 pub part-width : (slot : ℕ) → 256 * slot + 256 - 256 * slot ≡ 256
@@ -150,27 +150,27 @@ module _ (st : AllocState) (p : Params) (shape : Shape) (d : Segments) (exps : L
     slot-not-asked e = rw e
 
 -- a block
-module _ (st : AllocState) (fscod : ℕ) (shape : Shape) (d : Segments) (exps baps : List ℕ) (r : Parameters) (e : r ≡ st.parameters) where
-  pub never-sent : r ≡ NeverSent → allocated 29 baps ≡ allocated_of st fscod shape d exps baps
+module _ (st : AllocState) (fscod : ℕ) (shape : Shape) (d : Segments) (exps baps : List ℕ) (r : Option Codes) (e : r ≡ st.parameters) where
+  pub never-sent : r ≡ None → allocated (Err ParametersNeverSent) baps ≡ allocated_of st fscod shape d exps baps
   unfolding allocated_of
   never-sent f = rw (← e, f)
 
-  pub sent : (q : Codes) → r ≡ Sent q → (new : List ℕ) → new ≡ point_slots st (params_for q fscod) shape d exps baps 0 7 → allocated 0 new ≡ allocated_of st fscod shape d exps baps
+  pub sent : (q : Codes) → r ≡ Some q → (new : List ℕ) → new ≡ point_slots st (params_for q fscod) shape d exps baps 0 7 → allocated (Ok tt) new ≡ allocated_of st fscod shape d exps baps
   unfolding allocated_of
-  sent q f new g = ap (λ x. allocated 0 x) g ∙ ap (λ x. by_sent x (allocated 29 baps) (λ p. allocated 0 (point_slots st (params_for p fscod) shape d exps baps 0 7))) (sym f ∙ e)
+  sent q f new g = ap (λ x. allocated (Ok tt) x) g ∙ ap (λ x. by_sent x (allocated (Err ParametersNeverSent) baps) (λ p. allocated (Ok tt) (point_slots st (params_for p fscod) shape d exps baps 0 7))) (sym f ∙ e)
 
 -- segments that are alike
 pub alike_same : (d : Segments) (slot : ℕ) → Alike (segments_of d slot) (segments_of d slot)
 alike_same d slot = record { many = refl; rest = λ h. refl }
 
-pub alike-none : (n o l b o' l' b' : List ℕ) → ((k : ℕ) → k < 6 → get_or n k 0 ≡ 0) → (slot : ℕ) → Alike (segments_of (segments_by n o l b) slot) (segments_of (segments_by n o' l' b') slot)
+pub alike-none : (n o l b o' l' b' : List ℕ) → n ≡ replicate 6 0 → (slot : ℕ) → Alike (segments_of (segments_by n o l b) slot) (segments_of (segments_by n o' l' b') slot)
 unfolding segments_of
 alike-none n o l b o' l' b' z slot = go (ltb slot 6) refl
   where
     go : (t : Bool) → ltb slot 6 ≡ t → Alike
         (cond t (record { n = min (get_or n slot 0) 8; offset = eight_of o (8 * slot); len = eight_of l (8 * slot); ba = eight_of b (8 * slot) }) (record { n = 0; offset = replicate 8 0; len = replicate 8 0; ba = replicate 8 0 }))
         (cond t (record { n = min (get_or n slot 0) 8; offset = eight_of o' (8 * slot); len = eight_of l' (8 * slot); ba = eight_of b' (8 * slot) }) (record { n = 0; offset = replicate 8 0; len = replicate 8 0; ba = replicate 8 0 }))
-    go true e = record { many = refl; rest = λ h. absurd (h (let y = z slot (ltb-true slot 6 e) in omega arith)) }
+    go true e = record { many = refl; rest = λ h. absurd (h (let y = ap (λ x. get_or x slot 0) z ∙ get_or-replicate {A = ℕ} 6 slot 0 0 (ltb-true slot 6 e) in omega arith)) }
     go false e = record { many = refl; rest = λ h. refl }
 
 module _ (st : AllocState) (shape : Shape) (d e : Segments) (alike : (slot : ℕ) → Alike (segments_of d slot) (segments_of e slot)) where
@@ -186,7 +186,7 @@ module _ (st : AllocState) (shape : Shape) (d e : Segments) (alike : (slot : ℕ
   unfolding allocated_of
   allocated-alike fscod exps baps = go st.parameters
     where
-      go : (q : Parameters) → by_sent q (allocated 29 baps) (λ p. allocated 0 (point_slots st (params_for p fscod) shape d exps baps 0 7))
-          ≡ by_sent q (allocated 29 baps) (λ p. allocated 0 (point_slots st (params_for p fscod) shape e exps baps 0 7))
-      go NeverSent = refl
-      go (Sent p) = ap (λ x. allocated 0 x) (slots-alike (params_for p fscod) exps 7 0 baps)
+      go : (q : Option Codes) → by_sent q (allocated (Err ParametersNeverSent) baps) (λ p. allocated (Ok tt) (point_slots st (params_for p fscod) shape d exps baps 0 7))
+          ≡ by_sent q (allocated (Err ParametersNeverSent) baps) (λ p. allocated (Ok tt) (point_slots st (params_for p fscod) shape e exps baps 0 7))
+      go None = refl
+      go (Some p) = ap (λ x. allocated (Ok tt) x) (slots-alike (params_for p fscod) exps 7 0 baps)

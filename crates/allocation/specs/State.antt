@@ -1,5 +1,8 @@
 -- The state of bit allocation and the pointers of a block (A/52 clause 7.2.2.1, TS 102 366 clause 6.2.2.1; deltas: 7.2.2.6 and 6.2.2.6).
-use Rattle.std.specs.Prelude.{◌≡◌, Bool, false, cond, Option, Some, None, List, [], ◌∷◌, ◌++◌, ℕ, zero, suc, ◌+◌, ◌*◌, min, eqb, ltb, get_or, take, drop, replicate}
+use Rattle.std.specs.Prelude.{◌≡◌, ⊤, Bool, false, cond, Option, Some, None, Result, Ok, Err, List, [], ◌∷◌, ◌++◌, ℕ, zero, suc, ◌+◌, ◌*◌, min, eqb, ltb, get_or, take, drop, replicate}
+use Rattle.refusals.specs.Refusals.{number_of}
+use Rattle.refusals.specs.declared.Refusal.{Refusal}
+use Rattle.refusals.specs.declared.Refusal.TheVariants.{ParametersNeverSent}
 use Rattle.tables.specs.BitAllocation.{fastgain}
 use Rattle.alloc.specs.Allocation.{params_of, leak_of, allocation}
 use Rattle.alloc.specs.declared.Params.{Params}
@@ -13,8 +16,6 @@ use Rattle.slots.specs.Slots.{range_of, requested_of}
 use Rattle.slots.specs.declared.Shape.{Shape}
 use Rattle.silence.specs.Silence.{silent_by}
 use Rattle.allocation.specs.declared.Codes.{Codes}
-use Rattle.allocation.specs.declared.Parameters.{Parameters}
-use Rattle.allocation.specs.declared.Parameters.TheVariants.{NeverSent, Sent}
 use Rattle.allocation.specs.declared.AllocState.{AllocState}
 use Rattle.allocation.specs.declared.Segments.{Segments}
 
@@ -22,7 +23,7 @@ use Rattle.allocation.specs.declared.Segments.{Segments}
 unfoldable pub fresh_state : AllocState
 fresh_state =
     record {
-      parameters = NeverSent;
+      parameters = None;
       csnroffst = 0;
       fsnroffst = 0 ∷ 0 ∷ 0 ∷ 0 ∷ 0 ∷ 0 ∷ 0 ∷ [];
       fgaincod = 0 ∷ 0 ∷ 0 ∷ 0 ∷ 0 ∷ 0 ∷ 0 ∷ [];
@@ -104,19 +105,24 @@ module _ (st : AllocState) (p : Params) (shape : Shape) (d : Segments) (exps : L
   point_slots baps slot zero = baps
   point_slots baps slot (suc n) = point_slots (point_slot baps slot) (suc slot) n
 
--- a refusal number, or 0, and the pointers after it
+-- the number of a refusal, or 0
+abbrev pub number_in : Result ⊤ Refusal → ℕ
+number_in (Ok u) = 0
+number_in (Err r) = number_of r
+
+-- the end of an allocation, and the pointers after it
 pub record Allocated : Type 0 where
-  pub number : ℕ
+  pub ended : Result ⊤ Refusal
   pub baps : List ℕ
 
-abbrev pub allocated : ℕ → List ℕ → Allocated
-allocated n baps = record { number = n; baps = baps }
+abbrev pub allocated : Result ⊤ Refusal → List ℕ → Allocated
+allocated r baps = record { ended = r; baps = baps }
 
-abbrev pub by_sent : Parameters → Allocated → (Codes → Allocated) → Allocated
-by_sent NeverSent a k = a
-by_sent (Sent p) a k = k p
+abbrev pub by_sent : Option Codes → Allocated → (Codes → Allocated) → Allocated
+by_sent None a k = a
+by_sent (Some p) a k = k p
 
 -- a block: refusal 29 where no parameters were ever sent
 unfoldable pub allocated_of : AllocState → ℕ → Shape → Segments → List ℕ → List ℕ → Allocated
 allocated_of st fscod shape d exps baps =
-    by_sent st.parameters (allocated 29 baps) (λ p. allocated 0 (point_slots st (params_for p fscod) shape d exps baps 0 7))
+    by_sent st.parameters (allocated (Err ParametersNeverSent) baps) (λ p. allocated (Ok tt) (point_slots st (params_for p fscod) shape d exps baps 0 7))

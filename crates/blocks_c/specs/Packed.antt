@@ -6,12 +6,18 @@ use Rattle.hybrid.specs.Outcomes.{slot_outcome}
 use Rattle.refusals.specs.Refusals.{number_of}
 use Rattle.exponents.specs.Exponents.{Group}
 use Rattle.mantissas.specs.declared.Groups.{Groups}
+use Rattle.allocation.specs.State.{number_in, Allocated}
 use Rattle.mantissas.specs.declared.Passed.{Passed}
 use Rattle.hybrid.specs.declared.Transformed.{Transformed}
 
 abbrev pub packed_group : Group → ℕ
 packed_group (Err r) = 16777216 * number_of r
 packed_group (Ok (a, b, c)) = a + 256 * b + 65536 * c
+
+-- the number of an allocation's refusal or 0, and the pointers after it
+pub record Ends (r : ℕ) (baps : List ℕ) (a : Allocated) : Type 0 where
+  pub number : r ≡ number_in a.ended
+  pub after : baps ≡ a.baps
 
 -- the number of the refusal or 0, the place, and three counts
 abbrev pub packed : ℕ → ℕ → ℕ → ℕ → ℕ → ℕ

@@ -7,11 +7,11 @@ ghost use Rattle.exponents.specs.Exponents.{decode_of, size_of, groups_of, start
 ghost use Rattle.mantissas.specs.Mantissas.{conventional_of};
 ghost use Rattle.hybrid.specs.Hybrid.{aht_of};
 ghost use Rattle.slots.specs.Held.{Held};
-ghost use Rattle.allocation.specs.State.{allocated, allocated_of, segments_by};
-ghost use Rattle.blocks_c.specs.Packed.{packed_group, packed, PassedOutcome, TagsOutcome};
+ghost use Rattle.allocation.specs.State.{allocated_of, segments_by};
+ghost use Rattle.blocks_c.specs.Packed.{packed_group, packed, Ends, PassedOutcome, TagsOutcome};
 ghost use Rattle.blocks_c.specs.Flat.{sent_of, state_of, shape_of};
 
-use allocation::{AllocState, Codes, Parameters};
+use allocation::{AllocState, Codes, Segments};
 use bits::BitPlace;
 use mantissas::Groups;
 use slots::Shape;
@@ -75,11 +75,11 @@ pub extern "C" fn blocks_decode(prev: u8, group: u8) -> u32
 fn pack(number: u8, place: BitPlace, x: u16, y: u8, z: u8) -> u64
     ensures { result ≡ packed number place.0 x y z }
 {
-    number as u64
-        + 256 * (place.0 as u64)
-        + 16777216 * (x as u64)
-        + 4294967296 * (y as u64)
-        + 1099511627776 * (z as u64)
+    u64::from(number)
+        + 256 * u64::from(place.0)
+        + 16777216 * u64::from(x)
+        + 4294967296 * u64::from(y)
+        + 1099511627776 * u64::from(z)
 }
 
 fn eight(refused: bool) -> u8 {
@@ -107,16 +107,12 @@ pub extern "C" fn blocks_conventional(
         slot,
         start,
         end,
-        Groups {
-            g1: g1,
-            g2: g2,
-            g4: g4,
-        },
+        Groups { g1, g2, g4 },
         BitPlace(at),
         BitPlace(limit),
     );
     let g = p.groups;
-    pack(eight(p.refused), p.place, g.g1 as u16, g.g2, g.g4)
+    pack(eight(p.refused), p.place, u16::from(g.g1), g.g2, g.g4)
 }
 
 #[unsafe(no_mangle)]
@@ -136,24 +132,24 @@ pub extern "C" fn blocks_aht(
     pack(t.number, t.place, t.tags, 0, 0)
 }
 
-fn sent_of(sent: bool, codes: [u8; 5]) -> Parameters
-    ensures { result ≡ sent_of sent codes }
+fn sent_of(sent: bool, codes: &[u8; 5]) -> Option<Codes>
+    ensures { result ≡ sent_of sent codes.now }
 {
-    if sent {
-        return Parameters::Sent(Codes {
-            sdcycod: codes[0],
-            fdcycod: codes[1],
-            sgaincod: codes[2],
-            dbpbcod: codes[3],
-            floorcod: codes[4],
-        });
+    if !sent {
+        return None;
     }
-    Parameters::NeverSent
+    Some(Codes {
+        sdcycod: codes[0],
+        fdcycod: codes[1],
+        sgaincod: codes[2],
+        dbpbcod: codes[3],
+        floorcod: codes[4],
+    })
 }
 
 // The arrays come in lent, one for each. Nothing is kept from one call to the next.
 #[unsafe(no_mangle)]
-pub extern "C" fn blocks_allocate<'a>(
+pub extern "C" fn blocks_allocate(
     sent: bool,
     codes: &[u8; 5],
     csnroffst: u8,
@@ -170,45 +166,47 @@ pub extern "C" fn blocks_allocate<'a>(
     endmant: &[u16; 5],
     cplstrt: u16,
     cplend: u16,
-    n: &'a [u8; 6],
-    offset: &'a [u8; 48],
-    len: &'a [u8; 48],
-    ba: &'a [u8; 48],
+    n: &[u8; 6],
+    offset: &[u8; 48],
+    len: &[u8; 48],
+    ba: &[u8; 48],
     exps: &[u8; 1792],
     baps: &mut [u8; 1792],
 ) -> u8
     requires { (Held exps.now) × (length baps.old ≡ 1792) × (cplfleak < 8) × (cplsleak < 8) × (fscod < 3) }
-    ensures { allocated result baps.new
-        ≡ allocated_of (state_of (sent_of sent codes.now) csnroffst fsnroffst.now fgaincod.now cplfleak cplsleak) fscod
+    ensures { Ends result baps.new
+        (allocated_of (state_of (sent_of sent codes.now) csnroffst fsnroffst.now fgaincod.now cplfleak cplsleak) fscod
         (shape_of nfchans lfeon cplinu ahtinu.now ahtread.now endmant.now cplstrt cplend)
-        (segments_by n.now offset.now len.now ba.now) exps.now baps.old }
+        (segments_by n.now offset.now len.now ba.now) exps.now baps.old) }
 {
-    let c = *codes;
-    let f = *fsnroffst;
-    let g = *fgaincod;
-    let a = *ahtinu;
-    let b = *ahtread;
-    let e = *endmant;
-    let none = [false; 5];
     let st = AllocState {
-        parameters: sent_of(sent, c),
-        csnroffst: csnroffst,
-        fsnroffst: f,
-        fgaincod: g,
-        cplfleak: cplfleak,
-        cplsleak: cplsleak,
+        parameters: sent_of(sent, codes),
+        csnroffst,
+        fsnroffst: *fsnroffst,
+        fgaincod: *fgaincod,
+        cplfleak,
+        cplsleak,
     };
     let shape = Shape {
-        nfchans: nfchans,
-        lfeon: lfeon,
-        cplinu: cplinu,
-        chincpl: none,
-        ahtinu: a,
-        ahtread: b,
-        endmant: e,
-        cplstrt: cplstrt,
-        cplend: cplend,
+        nfchans,
+        lfeon,
+        cplinu,
+        chincpl: [false; 5],
+        ahtinu: *ahtinu,
+        ahtread: *ahtread,
+        endmant: *endmant,
+        cplstrt,
+        cplend,
+    };
+    let d = Segments {
+        n: *n,
+        offset: *offset,
+        len: *len,
+        ba: *ba,
     };
     let mut memo = [0u64; 42];
-    allocation::allocate_block(st, fscod, shape, n, offset, len, ba, exps, baps, &mut memo)
+    match allocation::allocate_block(st, fscod, shape, &d, exps, baps, &mut memo) {
+        Ok(()) => 0,
+        Err(refusal) => refusal.number(),
+    }
 }

@@ -1,23 +1,22 @@
 -- The state of bit allocation in the cells, step by step. Assumes nothing.
-use Prim.Native.Nat.{ℕ, zero, suc, ◌%◌, ◌<◌}
+use Prim.Native.Nat.{ℕ, ◌%◌}
 use native.Mathlib.Omega.{arith}
-use mathlib.Core.Bool.{Bool, true, ◌&&◌}
-use lib.Dec.{eqb}
-use lib.ListN.{get_or}
-use borrow.Author.Tests.{eqb-true}
-use Rattle.slots.proofs.Tests.{both}
-use mathlib.Core.Path.{◌≡◌, ap, sym, ◌∙◌}
+use mathlib.Core.Path.{◌≡◌, ap, sym, subst, ◌∙◌}
+use Rattle.std.specs.Prelude.{Option, Some, None, Result, Ok, Err}
+use Rattle.refusals.specs.declared.Refusal.{Refusal}
+use Rattle.refusals.specs.declared.Refusal.TheVariants.{ParametersNeverSent}
+use Rattle.allocation.specs.declared.Codes.{Codes}
 use mathlib.Core.List.{List, [], ◌∷◌}
 use Rattle.tables.specs.Small.{defspxbndstrc, defcplbndstrc}
 use Rattle.slots.specs.declared.Shape.{Shape}
 use Rattle.slots.specs.Held.{bins}
-use Rattle.allocation.specs.State.{fresh_state, segments_of, Alike, Allocated, allocated, allocated_of}
+use Rattle.allocation.specs.State.{number_in, fresh_state, segments_of, Alike, Allocated, allocated, by_sent, point_slots, params_for, allocated_of}
 use Rattle.allocation.proofs.StateLaws.{allocated-alike}
 use Rattle.allocation.specs.declared.AllocState.{AllocState}
 use Rattle.allocation.specs.declared.Segments.{Segments}
 use Rattle.cells.specs.Cells.{state, cell_of, put_in}
 use Rattle.cells.specs.Names.{BAI_SENT, CSNROFFST, FSNROFFST, FGAINCOD, DELTNSEG, SPXBNDSTRC, CPLBNDSTRC, FIRSTSPXCOS, FIRSTCPLCOS, FIRSTCPLLEAK, FSCOD}
-use Rattle.derivations.specs.Acted.{acted}
+use Rattle.derivations.specs.Acted.{acted, Numbered}
 use Rattle.sideinfo.specs.Shapes.{shape_of}
 use Rattle.derivations.specs.Allocating.{put_all, sent_of, put_state, five_ones, fresh_by, alloc_state_of, segments_in, allocate_in}
 
@@ -34,41 +33,17 @@ unfolding fresh_by
 fresh-is m m1 m2 m3 m4 m5 m6 y a spx cpl ea e1 e2 es e3 ec e4 e5 e6 ey = rw (ey, e6, e5, e4, ec, e3, es, e2, e1, ea)
 
 -- the pointers of the block
-pub allocate-is : (m x b bb : List ℕ) (a : AllocState) (f r : ℕ) (s : Shape) (d : Segments) → a ≡ alloc_state_of m → f ≡ cell_of m FSCOD % 3 → s ≡ shape_of m
-    → ((slot : ℕ) → Alike (segments_of d slot) (segments_of (segments_in m) slot)) → allocated r bb ≡ allocated_of a f s d x b → acted r (state m (bins x bb)) ≡ allocate_in (state m (bins x b))
+pub allocate-is : (m x b bb : List ℕ) (a : AllocState) (f : ℕ) (r : Result (Unit {0}) Refusal) (s : Shape) (d : Segments) → a ≡ alloc_state_of m → f ≡ cell_of m FSCOD % 3 → s ≡ shape_of m
+    → ((slot : ℕ) → Alike (segments_of d slot) (segments_of (segments_in m) slot)) → allocated r bb ≡ allocated_of a f s d x b → acted (number_in r) (state m (bins x bb)) ≡ allocate_in (state m (bins x b))
 unfolding allocate_in
 allocate-is m x b bb a f r s d ea ef es ed e =
     let z : allocated r bb ≡ allocated_of (alloc_state_of m) (cell_of m FSCOD % 3) (shape_of m) (segments_in m) x b = e ∙ allocated-alike a s d (segments_in m) ed f x b ∙ rw (ea, ef, es) in
-    ap (λ (o : Allocated). acted o.number (state m (bins x o.baps))) z
+    ap (λ (o : Allocated). acted (number_in o.ended) (state m (bins x o.baps))) z
 
--- no slot has segments
-pub none_is : (n : List ℕ) (a b c d e f : Bool) → a ≡ true && eqb (get_or n 0 0) 0 → b ≡ a && eqb (get_or n 1 0) 0 → c ≡ b && eqb (get_or n 2 0) 0 → d ≡ c && eqb (get_or n 3 0) 0
-    → e ≡ d && eqb (get_or n 4 0) 0 → f ≡ e && eqb (get_or n 5 0) 0 → f ≡ true → (k : ℕ) → k < 6 → get_or n k 0 ≡ 0
-none_is n a b c d e f ea eb ec ed ee ef h k l = go k l
+pub allocate-numbered : (a : AllocState) (f : ℕ) (s : Shape) (d : Segments) (r : Result (Unit {0}) Refusal) (x b bb : List ℕ) → allocated r bb ≡ allocated_of a f s d x b → Numbered r
+unfolding allocated_of
+allocate-numbered a f s d r x b bb e = go a.parameters (ap (λ (o : Allocated). o.ended) e)
   where
-    hf : (e ≡ true) × (eqb (get_or n 5 0) 0 ≡ true)
-    hf = both e (eqb (get_or n 5 0) 0) (sym ef ∙ h)
-
-    he : (d ≡ true) × (eqb (get_or n 4 0) 0 ≡ true)
-    he = both d (eqb (get_or n 4 0) 0) (sym ee ∙ hf.0)
-
-    hd : (c ≡ true) × (eqb (get_or n 3 0) 0 ≡ true)
-    hd = both c (eqb (get_or n 3 0) 0) (sym ed ∙ he.0)
-
-    hc : (b ≡ true) × (eqb (get_or n 2 0) 0 ≡ true)
-    hc = both b (eqb (get_or n 2 0) 0) (sym ec ∙ hd.0)
-
-    hb : (a ≡ true) × (eqb (get_or n 1 0) 0 ≡ true)
-    hb = both a (eqb (get_or n 1 0) 0) (sym eb ∙ hc.0)
-
-    ha : (true ≡ true) × (eqb (get_or n 0 0) 0 ≡ true)
-    ha = both true (eqb (get_or n 0 0) 0) (sym ea ∙ hb.0)
-
-    go : (k : ℕ) → k < 6 → get_or n k 0 ≡ 0
-    go zero l = eqb-true _ _ ha.1
-    go (suc zero) l = eqb-true _ _ hb.1
-    go (suc (suc zero)) l = eqb-true _ _ hc.1
-    go (suc (suc (suc zero))) l = eqb-true _ _ hd.1
-    go (suc (suc (suc (suc zero)))) l = eqb-true _ _ he.1
-    go (suc (suc (suc (suc (suc zero))))) l = eqb-true _ _ hf.1
-    go (suc (suc (suc (suc (suc (suc k)))))) l = absurd (let z : ⊥ = omega arith in z)
+    go : (q : Option Codes) → r ≡ (by_sent q (allocated (Err ParametersNeverSent) b) (λ p. allocated (Ok tt) (point_slots a (params_for p f) s d x b 0 7))).ended → Numbered r
+    go None q = subst Numbered (sym q) (omega arith)
+    go (Some p) q = subst Numbered (sym q) tt

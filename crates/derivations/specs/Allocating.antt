@@ -1,10 +1,8 @@
 -- The state of bit allocation and the delta segments in the cells: at the start of a frame, and the allocation of a block.
-use Rattle.std.specs.Prelude.{ℕ, ◌+◌, ◌%◌, cond, List, [], ◌∷◌, length, get_or}
+use Rattle.std.specs.Prelude.{Option, Some, None, ℕ, ◌+◌, ◌%◌, cond, List, [], ◌∷◌, length, get_or}
 use Rattle.tables.specs.Small.{defspxbndstrc, defcplbndstrc}
-use Rattle.allocation.specs.State.{fresh_state, allocated_of}
+use Rattle.allocation.specs.State.{fresh_state, number_in, allocated_of}
 use Rattle.allocation.specs.declared.Codes.{Codes}
-use Rattle.allocation.specs.declared.Parameters.{Parameters}
-use Rattle.allocation.specs.declared.Parameters.TheVariants.{NeverSent, Sent}
 use Rattle.allocation.specs.declared.AllocState.{AllocState}
 use Rattle.allocation.specs.declared.Segments.{Segments}
 use Rattle.slots.specs.Held.{bins}
@@ -24,7 +22,7 @@ abbrev pub put_all : List ℕ → ℕ → List ℕ → List ℕ
 put_all m k vs = each_of (λ i x. put_in x (k + i) (get_or vs i 0)) (length vs) m
 
 -- the parameters, if they were ever sent
-abbrev pub parameters_of : List ℕ → Parameters
+abbrev pub parameters_of : List ℕ → Option Codes
 parameters_of m =
     let codes : Codes = record {
       sdcycod = cell_of m SDCYCOD % 256;
@@ -33,7 +31,7 @@ parameters_of m =
       dbpbcod = cell_of m DBPBCOD % 256;
       floorcod = cell_of m FLOORCOD % 256;
     } in
-    cond (flag_of m BAI_SENT) (Sent codes) NeverSent
+    cond (flag_of m BAI_SENT) (Some codes) None
 
 -- the leak codes have three bits
 abbrev pub alloc_state_of : List ℕ → AllocState
@@ -55,9 +53,9 @@ segments_in m = record {
 }
 
 -- a state of bit allocation put into its cells: whether the parameters were sent, and their codes, come first
-abbrev pub sent_of : Parameters → List ℕ
-sent_of NeverSent = 0 ∷ 0 ∷ 0 ∷ 0 ∷ 0 ∷ 0 ∷ []
-sent_of (Sent q) = 1 ∷ q.sdcycod ∷ q.fdcycod ∷ q.sgaincod ∷ q.dbpbcod ∷ q.floorcod ∷ []
+abbrev pub sent_of : Option Codes → List ℕ
+sent_of None = 0 ∷ 0 ∷ 0 ∷ 0 ∷ 0 ∷ 0 ∷ []
+sent_of (Some q) = 1 ∷ q.sdcycod ∷ q.fdcycod ∷ q.sgaincod ∷ q.dbpbcod ∷ q.floorcod ∷ []
 
 unfoldable pub put_state : List ℕ → AllocState → List ℕ
 put_state m a =
@@ -83,10 +81,10 @@ fresh_by m =
 
 -- the parameters of bamode 0 (TS 102 366 E.1.2.4, A/52 E2.2.4)
 unfoldable pub defaults_by : List ℕ → List ℕ
-defaults_by m = put_all m BAI_SENT (sent_of (Sent (record { sdcycod = 2; fdcycod = 1; sgaincod = 1; dbpbcod = 2; floorcod = 7 })))
+defaults_by m = put_all m BAI_SENT (sent_of (Some (record { sdcycod = 2; fdcycod = 1; sgaincod = 1; dbpbcod = 2; floorcod = 7 })))
 
 -- the pointers of the block, or 29
 unfoldable pub allocate_in : State → Acted
 allocate_in st =
     let o = allocated_of (alloc_state_of st.cells) (cell_of st.cells FSCOD % 3) (shape_of st.cells) (segments_in st.cells) st.bins.exps st.bins.baps in
-    acted o.number (state st.cells (bins st.bins.exps o.baps))
+    acted (number_in o.ended) (state st.cells (bins st.bins.exps o.baps))

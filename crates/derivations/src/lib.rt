@@ -12,19 +12,22 @@ ghost use Rattle.cells.specs.Cells.{state};
 ghost use Rattle.derivations.specs.Derives.{Derives};
 
 use crate::allocating::{allocate_in, defaults, fresh};
+use refusals::Refusal;
 use sideinfo::blocks::{aht_read, cpl_range, endmants_in, ncplbnd, nrematbd, nspxbnds, spx_range};
 use sideinfo::frames::{
     blkstrtinfo, ch_strategies, cpl_strategies, ncplblks, nfchans, numblks, regions,
 };
 
-// The derivation k: 0, or a refusal's number.
+// The derivation k, where there is one.
+// Stays: a number and no enum, since `derived` says what each number does, those without a name too; an enum would list the
+// seventeen twice more.
 pub fn derive(
     k: u8,
     cells: &mut [u16; 1024],
     exps: &[u8; 1792],
     baps: &mut [u8; 1792],
     memo: &mut [u64; 42],
-) -> u8
+) -> Result<(), Refusal>
     requires { (Held exps.now) × Memo memo.old exps.now baps.old }
     ensures { Derives k result (state cells.old (bins exps.now baps.old)) (state cells.new (bins exps.now baps.new)) memo.new }
 {
@@ -42,16 +45,11 @@ pub fn derive(
         11 => cpl_range(cells),
         12 => ncplbnd(cells),
         13 => nrematbd(cells),
-        14 => {
-            return match endmants_in(cells) {
-                Ok(()) => 0,
-                Err(refusal) => refusal.number(),
-            };
-        }
+        14 => return endmants_in(cells),
         15 => defaults(cells),
         16 => return allocate_in(cells, exps, baps, memo),
         17 => aht_read(cells),
         _ => {}
     }
-    0
+    Ok(())
 }

@@ -25,10 +25,9 @@ use Rattle.mantissas.specs.Mantissas.{conventional_of}
 use Rattle.mantissas.specs.declared.Groups.{Groups}
 use Rattle.hybrid.specs.Hybrid.{active_in, singles_of, triples_of, gains_of, small_of, large_of, premantissa_of, premantissas_of, bin_of, bins_of, aht_of}
 use Rattle.plan.specs.Plan.{Along, visit_of, visit_if, slots_of, mantissas_of}
-use Rattle.allocation.specs.State.{Allocated, allocated, by_sent, allocated_of}
+use Rattle.allocation.specs.State.{Allocated, allocated, by_sent, number_in, allocated_of}
 use Rattle.allocation.specs.declared.Codes.{Codes}
-use Rattle.allocation.specs.declared.Parameters.{Parameters}
-use Rattle.allocation.specs.declared.Parameters.TheVariants.{NeverSent, Sent}
+use Rattle.refusals.specs.declared.Refusal.TheVariants.{ParametersNeverSent}
 use Rattle.cells.specs.Cells.{State, stored, sum_of}
 use Rattle.derivations.specs.Acted.{Acted, acted}
 use Rattle.derivations.specs.Allocating.{allocate_in, alloc_state_of}
@@ -305,9 +304,9 @@ numbered-allocate : (st : State) → Acts (allocate_in st).number
 unfolding allocate_in allocated_of among refusals
 numbered-allocate st = go (alloc_state_of st.cells).parameters _ (λ c. refl)
   where
-    go : (q : Parameters) (k : Codes → Allocated) → ((c : Codes) → Acts (k c).number) → Acts (by_sent q (allocated 29 st.bins.baps) k).number
-    go NeverSent k h = refl
-    go (Sent c) k h = h c
+    go : (q : Option Codes) (k : Codes → Allocated) → ((c : Codes) → Acts (number_in (k c).ended)) → Acts (number_in (by_sent q (allocated (Err ParametersNeverSent) st.bins.baps) k).ended)
+    go None k h = refl
+    go (Some c) k h = h c
 
 numbered-endmants : (st : State) → Acts (endmants_in st).number
 unfolding endmants_in among refusals

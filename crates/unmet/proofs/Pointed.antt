@@ -15,10 +15,11 @@ use Rattle.alloc.specs.declared.Pointers.TheVariants.{Bap, Hebap}
 use Rattle.alloc.proofs.Lists.{zeros}
 use Rattle.slots.specs.Slots.{requested_of, pointer}
 use Rattle.slots.specs.declared.Shape.{Shape}
-use Rattle.allocation.specs.State.{Allocated, allocated, silent_of, channel_of, leak_for, kind_of, segments_of, exps_in, pointed_of, pointers_of, point_slot, point_slots, params_for, by_sent, allocated_of}
+use Rattle.allocation.specs.State.{number_in, Allocated, allocated, silent_of, channel_of, leak_for, kind_of, segments_of, exps_in, pointed_of, pointers_of, point_slot, point_slots, params_for, by_sent, allocated_of}
 use Rattle.allocation.specs.declared.AllocState.{AllocState}
-use Rattle.allocation.specs.declared.Parameters.{Parameters}
-use Rattle.allocation.specs.declared.Parameters.TheVariants.{NeverSent, Sent}
+use Rattle.allocation.specs.declared.Codes.{Codes}
+use Rattle.std.specs.Prelude.{Option, Some, None, Ok, Err}
+use Rattle.refusals.specs.declared.Refusal.TheVariants.{ParametersNeverSent}
 use Rattle.allocation.specs.declared.Segments.{Segments}
 use Rattle.allocation.proofs.StateLaws.{pointed-length, pointed-at, pointed-apart}
 use Rattle.allocation.proofs.Unmet.{bap-within, hebap-within}
@@ -110,7 +111,7 @@ Sized st = length st.bins.baps ≡ 1792
 -- an allocation keeps them, and is refused, or its pointers are in range
 record AllocatedWell (st : State) (o : Allocated) : Type 0 where
   sized : length o.baps ≡ 1792
-  pointers : eqb o.number 0 ≡ true → Pointers st.cells o.baps
+  pointers : eqb (number_in o.ended) 0 ≡ true → Pointers st.cells o.baps
 
 allocates : (st : State) → Sized st
     → AllocatedWell st (allocated_of (alloc_state_of st.cells) (cell_of st.cells FSCOD % 3) (shape_of st.cells) (segments_in st.cells) st.bins.exps st.bins.baps)
@@ -120,10 +121,10 @@ allocates st h = go (alloc_state_of st.cells).parameters
     a : AllocState
     a = alloc_state_of st.cells
 
-    go : (q : Parameters)
-        → AllocatedWell st (by_sent q (allocated 29 st.bins.baps) (λ p. allocated 0 (point_slots a (params_for p (cell_of st.cells FSCOD % 3)) (shape_of st.cells) (segments_in st.cells) st.bins.exps st.bins.baps 0 7)))
-    go NeverSent = record { sized = h; pointers = λ e. absurd (true≢false (sym e)) }
-    go (Sent c) =
+    go : (q : Option Codes)
+        → AllocatedWell st (by_sent q (allocated (Err ParametersNeverSent) st.bins.baps) (λ p. allocated (Ok tt) (point_slots a (params_for p (cell_of st.cells FSCOD % 3)) (shape_of st.cells) (segments_in st.cells) st.bins.exps st.bins.baps 0 7)))
+    go None = record { sized = h; pointers = λ e. absurd (true≢false (sym e)) }
+    go (Some c) =
         let r = put-slots a (params_for c (cell_of st.cells FSCOD % 3)) (shape_of st.cells) (segments_in st.cells) st.bins.exps 7 0 st.bins.baps refl
         (record { sized = h; below = λ t k i. absurd (let z : ⊥ = omega arith in z) }) in
         record { sized = r.sized; pointers = λ _. r.below }

@@ -92,9 +92,8 @@ pub fn each(
                 count = c.count;
                 pc += 1;
             } else if kind == 12 {
-                let number = derive((w / 32 % 256) as u8, cells, exps, baps, memo);
-                if number != 0 {
-                    return halted(at, count, number);
+                if let Err(refusal) = derive((w / 32 % 256) as u8, cells, exps, baps, memo) {
+                    return halted(at, count, refusal.number());
                 }
                 pc += 1;
             } else if kind < 14 {

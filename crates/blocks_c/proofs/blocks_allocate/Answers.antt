@@ -5,6 +5,3 @@ pub allocate_block-requires : goal.allocate_block-requires
 allocate_block-requires c =
     let pre = c.requires in
     (pre.0, record { fast = pre.2; slow = pre.3; rate = pre.4 }, memo-fresh _ _ pre.1)
-
-pub returns : goal.returns
-returns c = rw (← c.sent_of.ensures) c.allocate_block.ensures.0

@@ -3,4 +3,4 @@ use Rattle.derivations.proofs.allocating.defaults.Goals as goal
 
 pub returns : goal.returns
 unfolding defaults_by
-returns c = rw (c.put_all.ensures, c.sent_of-sent.ensures)
+returns c = rw (c.put_all.ensures, c.sent_of.ensures)

@@ -1,15 +1,12 @@
+use Rattle.std.proofs.Common.{arith}
 use Rattle.sideinfo.proofs.StepLaws.{each_all, each_more, each_none}
-use native.Mathlib.Omega.{arith}
 use Rattle.derivations.proofs.allocating.put_all.Goals as goal
 
 pub loop-i-init : goal.loop-i-init
-loop-i-init c = (omega arith, each_none _ _)
-
-pub loop-i-smaller : goal.loop-i-smaller
-loop-i-smaller c = omega arith
+loop-i-init c = each_none _ _
 
 pub loop-i-preserved : goal.loop-i-preserved
-loop-i-preserved c = (omega arith, each_more _ _ _ _ _ c.loop-i.invariant.1 (rw (c.put.ensures, c.wide.ensures)))
+loop-i-preserved c = each_more _ _ _ _ _ c.loop-i.invariant (rw (c.put.ensures, c.from.ensures))
 
 pub returns : goal.returns
-returns c = each_all _ _ _ _ _ c.loop-i.invariant.1 (omega arith)
+returns c = each_all _ _ _ _ _ c.loop-i.invariant (omega arith)

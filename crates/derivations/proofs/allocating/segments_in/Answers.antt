@@ -1,8 +1,7 @@
-use Rattle.allocation.proofs.StateLaws.{alike_same, alike-none}
+use Rattle.std.proofs.Common.{sym, ◌∙◌}
+use Rattle.std.specs.Cmp.Lexicographic.{bytes_decides}
+use Rattle.allocation.proofs.StateLaws.{alike-none}
 use Rattle.derivations.proofs.allocating.segments_in.Goals as goal
 
-pub returns-then-none : goal.returns-then-none
-returns-then-none c = λ slot. rw (← c.six_bytes-n.ensures) (alike-none _ _ _ _ _ _ _ (c.none.ensures c.if-none.true) slot)
-
-pub returns : goal.returns
-returns c = λ slot. rw (c.six_bytes-n.ensures, c.many_bytes-offset.ensures, c.many_bytes-len.ensures, c.many_bytes-ba.ensures) (alike_same _ slot)
+pub returns-then-eq : goal.returns-then-eq
+returns-then-eq c = λ slot. rw (← c.bytes-n.ensures) (alike-none _ _ _ _ _ _ _ ((bytes_decides _ _).0 (sym c.eq.ensures ∙ c.if-eq.true)) slot)
