@@ -24,6 +24,7 @@ use Rattle.alloc.specs.Premises.{Exponents, Tuned, Channelled}
 use Rattle.alloc.specs.declared.Channel.{Channel}
 use Rattle.alloc.specs.declared.Deltas.{Deltas}
 use Rattle.alloc.specs.declared.Gains.{Gains}
+use Rattle.std.specs.Prelude.{Option}
 use Rattle.alloc.specs.declared.Leak.{Leak}
 use Rattle.alloc.specs.declared.Leaks.{Leaks}
 use Rattle.alloc.specs.declared.Levels.{Levels}
@@ -295,7 +296,7 @@ places-at g l q d bnd first last b lo hi h =
     ∙ within first last b (place_l (mask_l g l q d bnd first last b) q.snr q.floor) 0 lo hi
 
 -- the whole
-module _ (kind : Pointers) (exp : List ℕ) (c : Channel) (q : Params) (l : Leak) (d : Deltas)
+module _ (kind : Pointers) (exp : List ℕ) (c : Channel) (q : Params) (l : Option Leak) (d : Deltas)
     (some : c.start < c.end) (ready : Exponents exp c.start c.end) (channel : Channelled c l d) (tuned : Tuned q) where
   bnd-at : (k : ℕ) → k < 50 → get_or (bndpsds_l exp c.start c.end) k 0 ≡ bndpsd_l exp c.start c.end k
   unfolding bndpsds_l

@@ -2,6 +2,7 @@
 -- Assumes nothing.
 use mathlib.Core.Path.{◌≡◌, refl}
 use mathlib.Core.List.{List}
+use Rattle.std.specs.Prelude.{Option}
 use Prim.Native.Nat.{ℕ, ◌≤◌}
 use lib.IntN.{pos, negsuc}
 use lib.ListN.{get_or, replicate}
@@ -28,12 +29,12 @@ pub offset-63-15 : snroffset 63 15 ≡ pos 3132
 unfolding snroffset
 offset-63-15 = refl
 
-pub none-allocated : (kind : Pointers) (exp : List ℕ) (c : Channel) (q : Params) (l : Leak) (d : Deltas) → c.end ≤ c.start
+pub none-allocated : (kind : Pointers) (exp : List ℕ) (c : Channel) (q : Params) (l : Option Leak) (d : Deltas) → c.end ≤ c.start
     → replicate 256 0 ≡ allocation kind exp c q l d
 unfolding allocation
 none-allocated kind exp c q l d h = ranged-none (pointer kind exp c q l d) c.start c.end 256 h
 
-module _ (exp : List ℕ) (c : Channel) (q : Params) (l : Leak) (d : Deltas) (k : ℕ) where
+module _ (exp : List ℕ) (c : Channel) (q : Params) (l : Option Leak) (d : Deltas) (k : ℕ) where
   pub pointer-at-most-15 : get_or (allocation Bap exp c q l d) k 0 ≤ 15
   unfolding allocation
   pointer-at-most-15 = ranged-most (pointer Bap exp c q l d) c.start c.end 256 15 (λ j. bap-at-most-15 _) k

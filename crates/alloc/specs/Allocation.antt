@@ -1,7 +1,7 @@
 -- The parametric bit allocation on whole numbers, clause by clause: A/52 7.2.2.x is TS 102 366 6.2.2.x.
 -- `cond t a b` is a where t holds and b where it does not; `pos n` is the natural number n as a whole number.
 -- Names are those of the clauses; tables are those of the crate `tables`.
-use Rattle.std.specs.Prelude.{Bool, ◌&&◌, not, cond, List, [], ◌∷◌, ℕ, zero, suc, ◌+◌, ◌-◌, ◌*◌, ◌/◌, ◌%◌, min, max, leb, ltb, eqb, get_or, ℤ, pos, negsuc, neg_ℤ, nat_abs, ◌+ℤ◌, ◌-ℤ◌, ◌*ℤ◌}
+use Rattle.std.specs.Prelude.{Bool, ◌&&◌, not, cond, Option, Some, None, List, [], ◌∷◌, ℕ, zero, suc, ◌+◌, ◌-◌, ◌*◌, ◌/◌, ◌%◌, min, max, leb, ltb, eqb, get_or, ℤ, pos, negsuc, neg_ℤ, nat_abs, ◌+ℤ◌, ◌-ℤ◌, ◌*ℤ◌}
 use Rattle.std.specs.Int.Signed.{lt_z}
 use Rattle.tables.specs.BitAllocation.{slowdec, fastdec, slowgain, dbpbtab, floortab, latab, hth, baptab, hebaptab}
 use Rattle.tables.specs.Bands.{band_of, start_of, end_of}
@@ -9,7 +9,6 @@ use Rattle.alloc.specs.declared.Params.{Params}
 use Rattle.alloc.specs.declared.Channel.{Channel}
 use Rattle.alloc.specs.declared.Deltas.{Deltas}
 use Rattle.alloc.specs.declared.Leak.{Leak}
-use Rattle.alloc.specs.declared.Leak.TheVariants.{Absent, Pair}
 use Rattle.alloc.specs.declared.Pointers.{Pointers}
 use Rattle.alloc.specs.declared.Pointers.TheVariants.{Bap, Hebap}
 
@@ -42,7 +41,7 @@ params_of sdcycod fdcycod sgaincod dbpbcod floorcod fscod =
     }
 
 abbrev pub leak_of : ℕ → ℕ → Leak
-leak_of cplfleak cplsleak = Pair (cplfleak * 256 + 768) (cplsleak * 256 + 768)
+leak_of cplfleak cplsleak = record { fast = cplfleak * 256 + 768; slow = cplsleak * 256 + 768 }
 
 unfoldable pub snroffset : ℕ → ℕ → ℤ
 snroffset csnroffst fsnroffst = pos 4 *ℤ (pos 16 *ℤ (pos csnroffst -ℤ pos 15) +ℤ pos fsnroffst)
@@ -166,16 +165,16 @@ abbrev pub table_of : Pointers → List ℕ
 table_of Bap = baptab
 table_of Hebap = hebaptab
 
-abbrev pub fast_of : Leak → ℕ
-fast_of Absent = 0
-fast_of (Pair fast slow) = fast
+abbrev pub fast_of : Option Leak → ℕ
+fast_of None = 0
+fast_of (Some leak) = leak.fast
 
-abbrev pub slow_of : Leak → ℕ
-slow_of Absent = 0
-slow_of (Pair fast slow) = slow
+abbrev pub slow_of : Option Leak → ℕ
+slow_of None = 0
+slow_of (Some leak) = leak.slow
 
 -- the whole, of the bins start .. end - 1 of the exponents exp
-module _ (kind : Pointers) (exp : List ℕ) (c : Channel) (q : Params) (l : Leak) (d : Deltas) where
+module _ (kind : Pointers) (exp : List ℕ) (c : Channel) (q : Params) (l : Option Leak) (d : Deltas) where
   abbrev pub mask : ℕ → ℤ
   mask b =
       stepped

@@ -1,7 +1,7 @@
 -- What the code computes with: the formulas of `Allocation` on levels. A level n stands for the number n - 8192, so that
 -- no level is below 0. A difference of two levels (a gain, a decay, lowcomp) is held as it is.
 -- `proofs/Carry.antt` proves that these are the formulas of `Allocation`.
-use Rattle.std.specs.Prelude.{◌≡◌, ◌&&◌, cond, List, ℕ, zero, suc, ◌+◌, ◌-◌, ◌*◌, ◌/◌, ◌%◌, ◌≤◌, min, max, leb, ltb, eqb, ℤ, pos, ◌+ℤ◌, get_or}
+use Rattle.std.specs.Prelude.{◌≡◌, ◌&&◌, cond, Option, List, ℕ, zero, suc, ◌+◌, ◌-◌, ◌*◌, ◌/◌, ◌%◌, ◌≤◌, min, max, leb, ltb, eqb, ℤ, pos, ◌+ℤ◌, get_or}
 use Rattle.std.proofs.Math.IntN.{sub_ℕ}
 use Rattle.tables.specs.BitAllocation.{latab, hth}
 use Rattle.tables.specs.Bands.{band_of}
@@ -28,7 +28,7 @@ level_of z = floored (z +ℤ pos 8192)
 abbrev pub gains_of : ℕ → Params → Gains
 gains_of fgain q = record { fgain = fgain; sgain = q.sgain; fdecay = q.fdecay; sdecay = q.sdecay }
 
-abbrev pub leaks_of : Leak → Leaks
+abbrev pub leaks_of : Option Leak → Leaks
 leaks_of l = record { fast = 8192 + fast_of l; slow = 8192 + slow_of l }
 
 abbrev pub levels_of : Params → ℕ → ℕ → Levels

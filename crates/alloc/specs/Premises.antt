@@ -1,5 +1,5 @@
 -- What contracts ask for and leave, besides the definitions.
-use Rattle.std.specs.Prelude.{◌≡◌, List, ◌++◌, ℕ, ◌-◌, ◌≤◌, ◌<◌, pos, negsuc, length, get_or, ◌≤ℤ◌}
+use Rattle.std.specs.Prelude.{◌≡◌, Option, List, ◌++◌, ℕ, ◌-◌, ◌≤◌, ◌<◌, pos, negsuc, length, get_or, ◌≤ℤ◌}
 use Rattle.tables.specs.BitAllocation.{latab, bndend, masktab, hth, baptab, hebaptab}
 use Rattle.tables.specs.Steps.{steps}
 use Rattle.alloc.specs.Allocation.{fast_of, slow_of}
@@ -43,7 +43,7 @@ pub record Tuned (q : Params) : Type 0 where
   pub rate : q.fscod < 3
 
 -- the ranges of a channel, its leaks and its segments
-pub record Channelled (c : Channel) (l : Leak) (d : Deltas) : Type 0 where
+pub record Channelled (c : Channel) (l : Option Leak) (d : Deltas) : Type 0 where
   pub within : c.end ≤ 253
   pub fgain : c.fgain ≤ 1024
   pub fast : fast_of l ≤ 2560
@@ -71,12 +71,6 @@ pub record Leaking (l : Leaks) : Type 0 where
   pub slow : l.slow < 32768
   pub fast_least : 8192 ≤ l.fast
   pub slow_least : 8192 ≤ l.slow
-
--- the ranges of leaks and lowcomp at any band: a decay can be taken from a leak, and lowcomp from the fast one
-pub record Decaying (s : Passed) : Type 0 where
-  pub fast : 4096 ≤ s.fast
-  pub slow : 4096 ≤ s.slow
-  pub low : s.low ≤ 384
 
 -- the places lo .. hi - 1 of a list hold f's values, and the others what they held
 pub record Written (f : ℕ → ℕ) (lo hi : ℕ) (old new : List ℕ) : Type 0 where

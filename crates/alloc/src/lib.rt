@@ -6,9 +6,10 @@
 
 #![tactic(auto)]
 
-ghost use Rattle.std.specs.Prelude.{◌≡◌, ◌-◌, ◌<◌, max, min};
-ghost use Rattle.tables.specs.BitAllocation.{bndend};
+ghost use Rattle.std.specs.Prelude.{◌≡◌, ℕ, ◌++◌, ◌<◌, ◌≤◌, get_or};
+ghost use Rattle.tables.specs.BitAllocation.{latab as logTab, masktab as maskTab, bndend, hth as hthTab, baptab, hebaptab};
 ghost use Rattle.tables.specs.Bands.{end_of};
+ghost use Rattle.tables.specs.Steps.{steps};
 ghost use Rattle.alloc.specs.Allocation.{params_of, leak_of};
 
 // The parameters, in the units of the tables.
@@ -22,14 +23,15 @@ pub struct Params {
     pub fscod: usize,
 }
 
-// The leaks that coupling starts with, fast and slow. Other channels have none.
+// The leaks that coupling starts with. Other channels have none.
 #[derive(Clone, Copy)]
-pub enum Leak {
-    Absent,
-    Pair(u32, u32),
+pub struct Leak {
+    pub fast: u32,
+    pub slow: u32,
 }
 
 // The segments of delta bit allocation: `n` of them.
+// Stays: `counter`, `covers` and `deltaed` read deltoffst, deltlen and deltba as the standard has them, each by segment.
 #[derive(Clone, Copy)]
 pub struct Deltas {
     pub n: usize,
@@ -39,7 +41,7 @@ pub struct Deltas {
 }
 
 // Which table gives the pointers.
-#[derive(Clone, Copy)]
+#[derive(Clone, Copy, PartialEq, Eq, Debug)]
 pub enum Pointers {
     Bap,
     Hebap,
@@ -71,12 +73,16 @@ pub struct Leaks {
     pub slow: u32,
 }
 
-// The leaks and the low-frequency compensation as the bands are passed.
+// The leaks and the low-frequency compensation as the bands are passed: a decay can be taken from a leak, and lowcomp from the
+// fast one.
 #[derive(Clone, Copy)]
 pub struct Passed {
     pub fast: u32,
     pub slow: u32,
     pub low: u32,
+    pub ghost fast_least: { 4096 ≤ fast },
+    pub ghost slow_least: { 4096 ≤ slow },
+    pub ghost low_most: { low ≤ 384 },
 }
 
 // The knee and the floor as levels, and the offset 960 above its value.
@@ -88,35 +94,21 @@ pub struct Levels {
     pub fscod: usize,
 }
 
-pub fn wide(x: u8) -> u32
-    ensures { result ≡ x }
-{
-    x as u32
-}
-
-pub fn index(x: u8) -> usize
-    ensures { (result ≡ x) × (result < 256) }
-{
-    x as usize
-}
-
-// What is left of a when b is taken away, or 0.
-pub fn less(a: u32, b: u32) -> u32
-    ensures { result ≡ a - b }
-{
-    if b <= a { a - b } else { 0 }
-}
-
-pub fn later(a: usize, b: usize) -> usize
-    ensures { result ≡ max a b }
-{
-    if a < b { b } else { a }
-}
-
-pub fn sooner(a: usize, b: usize) -> usize
-    ensures { result ≡ min a b }
-{
-    if a < b { a } else { b }
+// The tables that pointers are made with, and what each pointer is worth by a table of shares.
+#[derive(Clone, Copy)]
+pub struct Tables<'a> {
+    pub latab: &'a [u8; 256],
+    pub masktab: &'a [u8; 253],
+    pub ends: &'a [u8; 50],
+    pub hth: &'a [u16; 150],
+    pub points: &'a [u8; 1024],
+    pub shares: &'a [u64; 256],
+    pub ghost log: { latab.now ≡ logTab },
+    pub ghost bins: { masktab.now ≡ maskTab },
+    pub ghost bounds: { ends.now ≡ bndend },
+    pub ghost heard: { hth.now ≡ hthTab },
+    pub ghost pointed: { points.now ≡ steps baptab 0 512 ++ steps hebaptab 0 512 },
+    pub ghost share_most: { (k : ℕ) → get_or shares.now k 0 ≤ 281474976710656 },
 }
 
 // The first bin past a band.
@@ -124,7 +116,7 @@ pub fn end_of(ends: &[u8; 50], k: usize) -> usize
     requires { (ends.now ≡ bndend) × (k < 50) }
     ensures { result ≡ end_of k }
 {
-    index(ends[k])
+    usize::from(ends[k])
 }
 
 // The parameters by their codes. Any code is taken; one past its table gives 0.
@@ -144,7 +136,7 @@ pub fn params_of(
         sgain: tables::slow_gain(sgaincod),
         dbknee: tables::db_knee(dbpbcod),
         floor: tables::floor(floorcod),
-        fscod: fscod,
+        fscod,
     }
 }
 
@@ -152,5 +144,8 @@ pub fn params_of(
 pub fn leak_of(cplfleak: u8, cplsleak: u8) -> Leak
     ensures { result ≡ leak_of cplfleak cplsleak }
 {
-    Leak::Pair(wide(cplfleak) * 256 + 768, wide(cplsleak) * 256 + 768)
+    Leak {
+        fast: u32::from(cplfleak) * 256 + 768,
+        slow: u32::from(cplsleak) * 256 + 768,
+    }
 }

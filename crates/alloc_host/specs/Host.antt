@@ -1,13 +1,12 @@
 -- What the driver's arrays stand for. The codes, in this order: fscod, sdcycod, fdcycod, sgaincod, dbpbcod, floorcod, fgaincod,
 -- csnroffst, fsnroffst, cplfleak, cplsleak, 1 for coupling, 1 for HEBAP, the number of segments. The segments: their
 -- offsets, their lengths, their values.
-use Rattle.std.specs.Prelude.{Bool, true, false, List, [], ◌≡◌, ℕ, ◌<◌, ◌≤◌, eqb, length, get_or}
+use Rattle.std.specs.Prelude.{Bool, true, false, Option, Some, None, List, [], ◌≡◌, ℕ, ◌<◌, ◌≤◌, eqb, length, get_or}
 use Rattle.tables.specs.BitAllocation.{fastgain}
 use Rattle.alloc.specs.Allocation.{leak_of, params_of, allocation}
 use Rattle.alloc.specs.declared.Channel.{Channel}
 use Rattle.alloc.specs.declared.Deltas.{Deltas}
 use Rattle.alloc.specs.declared.Leak.{Leak}
-use Rattle.alloc.specs.declared.Leak.TheVariants.{Absent}
 use Rattle.alloc.specs.declared.Params.{Params}
 use Rattle.alloc.specs.declared.Pointers.{Pointers}
 use Rattle.alloc.specs.declared.Pointers.TheVariants.{Bap, Hebap}
@@ -16,9 +15,9 @@ abbrev pub kind_of : Bool → Pointers
 kind_of true = Hebap
 kind_of false = Bap
 
-abbrev pub leak_by : Bool → ℕ → ℕ → Leak
-leak_by true cplfleak cplsleak = leak_of cplfleak cplsleak
-leak_by false cplfleak cplsleak = Absent
+abbrev pub leak_by : Bool → ℕ → ℕ → Option Leak
+leak_by true cplfleak cplsleak = Some (leak_of cplfleak cplsleak)
+leak_by false cplfleak cplsleak = None
 
 abbrev pub channel_of : ℕ → ℕ → List ℕ → Channel
 channel_of start end codes =

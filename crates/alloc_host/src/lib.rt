@@ -6,65 +6,62 @@ ghost use Rattle.std.specs.Prelude.{◌≡◌, ◌≤◌, length};
 ghost use Rattle.alloc.specs.Premises.{Exponents};
 ghost use Rattle.alloc_host.specs.Host.{kind_of, leak_by, channel_of, params_by, deltas_of, allocation_by, Codes};
 
-fn index(x: u8) -> usize
-    ensures { result ≡ x }
-{
-    x as usize
-}
+use alloc::{Channel, Deltas, Leak, Params, Pointers, Tables};
 
-fn pointers_of(hebap: bool) -> alloc::Pointers
+fn pointers_of(hebap: bool) -> Pointers
     ensures { result ≡ kind_of hebap }
 {
     if hebap {
-        alloc::Pointers::Hebap
+        Pointers::Hebap
     } else {
-        alloc::Pointers::Bap
+        Pointers::Bap
     }
 }
 
-fn leak_by(coupling: bool, cplfleak: u8, cplsleak: u8) -> alloc::Leak
+fn leak_by(coupling: bool, cplfleak: u8, cplsleak: u8) -> Option<Leak>
     ensures { result ≡ leak_by coupling cplfleak cplsleak }
 {
     if coupling {
-        alloc::leak_of(cplfleak, cplsleak)
+        Some(alloc::leak_of(cplfleak, cplsleak))
     } else {
-        alloc::Leak::Absent
+        None
     }
 }
 
-fn channel_of(start: usize, end: usize, codes: &[u8; 14]) -> alloc::Channel
-    requires { length codes.now ≡ 14 }
+fn channel_of(start: usize, end: usize, codes: &[u8; 14]) -> Channel
     ensures { result ≡ channel_of start end codes.now }
 {
-    alloc::Channel {
-        start: start,
-        end: end,
+    Channel {
+        start,
+        end,
         fgain: tables::fast_gain(codes[6]),
         csnroffst: codes[7],
         fsnroffst: codes[8],
     }
 }
 
-fn params_by(codes: &[u8; 14]) -> alloc::Params
-    requires { length codes.now ≡ 14 }
+fn params_by(codes: &[u8; 14]) -> Params
     ensures { result ≡ params_by codes.now }
 {
-    let fscod = index(codes[0]);
-    alloc::params_of(codes[1], codes[2], codes[3], codes[4], codes[5], fscod)
+    alloc::params_of(
+        codes[1],
+        codes[2],
+        codes[3],
+        codes[4],
+        codes[5],
+        usize::from(codes[0]),
+    )
 }
 
-fn deltas_of(n: u8, segments: &[[u8; 8]; 3]) -> alloc::Deltas
-    requires { length segments.now ≡ 3 }
+fn deltas_of(n: u8, segments: &[[u8; 8]; 3]) -> Deltas
     ensures { result ≡ deltas_of n segments.now }
 {
-    let o = segments[0];
-    let e = segments[1];
-    let b = segments[2];
-    alloc::Deltas {
-        n: index(n),
-        offset: o,
-        len: e,
-        ba: b,
+    let [offset, len, ba] = *segments;
+    Deltas {
+        n: usize::from(n),
+        offset,
+        len,
+        ba,
     }
 }
 
@@ -86,18 +83,18 @@ pub extern "C" fn alloc_by_codes(
         pointers::no_bins(out);
         return;
     }
-    let latab = tables::log_add();
-    let masktab = tables::masktab();
-    let ends = tables::band_end();
-    let hth = tables::hearing();
-    let points = tables::pointers();
-    let shares = [0u64; 256];
+    let tables = Tables {
+        latab: &tables::log_add(),
+        masktab: &tables::masktab(),
+        ends: &tables::band_end(),
+        hth: &tables::hearing(),
+        points: &tables::pointers(),
+        shares: &[0; 256],
+    };
     let c = channel_of(start, end, codes);
     let p = params_by(codes);
     let l = leak_by(codes[11] == 1, codes[9], codes[10]);
     let d = deltas_of(codes[13], segments);
-    let k = pointers_of(codes[12] == 1);
-    pointers::allocate(
-        &latab, &masktab, &ends, &hth, &points, &shares, exps, out, c, p, l, d, k,
-    );
+    let kind = pointers_of(codes[12] == 1);
+    pointers::allocate(&tables, exps, out, c, p, l, d, kind);
 }

@@ -1,4 +1,5 @@
 -- Laws of what is kept of an allocation: words and their bytes; a slot is found again, made stale, noted. Assumes nothing.
+use Rattle.std.specs.Prelude.{Option, Some, None}
 use mathlib.Core.Path.{◌≡◌, refl, ap, sym, subst, ◌∙◌}
 use mathlib.Core.Bool.{Bool, true, false, cond}
 use mathlib.Core.List.{List, [], ◌∷◌, ◌++◌}
@@ -19,7 +20,6 @@ use Rattle.alloc.specs.declared.Params.{Params}
 use Rattle.alloc.specs.declared.Channel.{Channel}
 use Rattle.alloc.specs.declared.Deltas.{Deltas}
 use Rattle.alloc.specs.declared.Leak.{Leak}
-use Rattle.alloc.specs.declared.Leak.TheVariants.{Absent}
 use Rattle.alloc.specs.declared.Pointers.{Pointers}
 use Rattle.alloc.specs.declared.Pointers.TheVariants.{Bap, Hebap}
 use Rattle.slots.specs.Slots.{range_of, requested_of, pointer}
@@ -93,7 +93,8 @@ few : (t : Bool) (x : ℕ) → cond t (min x 8) 0 ≤ 8
 few true x = omega arith
 few false x = omega arith
 
-leak-low : (t : Bool) (f s : ℕ) → fast_of (leak_of f s) ≤ 2560 → slow_of (leak_of f s) ≤ 2560 → (fast_of (cond t (leak_of f s) Absent) ≤ 2560) × (slow_of (cond t (leak_of f s) Absent) ≤ 2560)
+leak-low : (t : Bool) (f s : ℕ) → fast_of (Some (leak_of f s)) ≤ 2560 → slow_of (Some (leak_of f s)) ≤ 2560
+    → (fast_of (cond t (Some (leak_of f s)) None) ≤ 2560) × (slow_of (cond t (Some (leak_of f s)) None) ≤ 2560)
 leak-low true f s g h = (g, h)
 leak-low false f s g h = (omega arith, omega arith)
 
@@ -284,7 +285,7 @@ module _ (memo exps exps' baps : List ℕ) (slot : ℕ) (so : Memo memo exps bap
       }
 
 -- the pointers of a slot are computed, and noted, as the code does it: they go into the part that it lends, and it has their shares
-module _ (slot : ℕ) (h : slot < 7) (s : Source) (c : Channel) (ec : c ≡ channel_by s.own) (kind : Pointers) (ek : kind ≡ kind_by s.own) (l : Leak) (el : l ≡ leak_by slot s.common)
+module _ (slot : ℕ) (h : slot < 7) (s : Source) (c : Channel) (ec : c ≡ channel_by s.own) (kind : Pointers) (ek : kind ≡ kind_by s.own) (l : Option Leak) (el : l ≡ leak_by slot s.common)
     (d : Deltas) (ed : d ≡ deltas_by slot s) (p : Params) (ep : p ≡ params_by s.common) where
   pub channelled : CodedBy s.common → Channelled c l d
   channelled coded =

@@ -1,4 +1,5 @@
 -- Laws of the allocation of a block: the parts that go into it, and slot by slot. Assumes nothing.
+use Rattle.std.specs.Prelude.{Option}
 use mathlib.Core.Path.{◌≡◌, refl, ap, sym, ◌∙◌}
 use mathlib.Core.Bool.{Bool, true, false, ◌&&◌, cond}
 use mathlib.Core.List.{List, ◌++◌}
@@ -116,18 +117,18 @@ tab-none : (f : ℕ → ℕ) → ((i : ℕ) → f i ≡ 0) → (i n : ℕ) → t
 tab-none f z i zero = refl
 tab-none f z i (suc n) = rw (z i, tab-none f z (suc i) n)
 
-pub allocation-silent : (t : Bool) (k : Pointers) (e : List ℕ) (c : Channel) (p : Params) (l : Leak) (d : Deltas)
+pub allocation-silent : (t : Bool) (k : Pointers) (e : List ℕ) (c : Channel) (p : Params) (l : Option Leak) (d : Deltas)
     → allocation k e (silenced t c) p l d ≡ cond t (replicate 256 0) (allocation k e c p l d)
 unfolding allocation
 allocation-silent true k e c p l d = tab-none (λ b. cond (leb c.start b && ltb b 0) (pointer k e (silenced true c) p l d b) 0) (λ b. none-there (leb c.start b) b (pointer k e (silenced true c) p l d b)) 0 256
 allocation-silent false k e c p l d = refl
 
 -- no segments, whatever their fields are
-no-deltas : (k : Pointers) (x : List ℕ) (c : Channel) (p : Params) (l : Leak) (d d' : Deltas) → d.n ≡ 0 → d'.n ≡ 0 → allocation k x c p l d ≡ allocation k x c p l d'
+no-deltas : (k : Pointers) (x : List ℕ) (c : Channel) (p : Params) (l : Option Leak) (d d' : Deltas) → d.n ≡ 0 → d'.n ≡ 0 → allocation k x c p l d ≡ allocation k x c p l d'
 unfolding allocation deltaed
 no-deltas k x c p l d d' e f = rw (e, f)
 
-pub allocation-alike : (k : Pointers) (x : List ℕ) (c : Channel) (p : Params) (l : Leak) (d d' : Deltas) → Alike d d' → allocation k x c p l d ≡ allocation k x c p l d'
+pub allocation-alike : (k : Pointers) (x : List ℕ) (c : Channel) (p : Params) (l : Option Leak) (d d' : Deltas) → Alike d d' → allocation k x c p l d ≡ allocation k x c p l d'
 allocation-alike k x c p l d d' a = by_cases (ℕ_discrete d.n 0) (λ q. no-deltas k x c p l d d' q (sym a.many ∙ q)) (λ q. ap (λ y. allocation k x c p l y) (a.rest q))
 
 -- the pointers of a slot

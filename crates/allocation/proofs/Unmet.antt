@@ -1,4 +1,5 @@
 -- Tests of the reference that no input meets, so that the definitions leave them out: one fact for each. Assumes nothing.
+use Rattle.std.specs.Prelude.{Option}
 use mathlib.Core.Path.{◌≡◌}
 use mathlib.Core.Bool.{Bool, true, false, ◌&&◌, cond}
 use mathlib.Core.List.{List}
@@ -18,7 +19,7 @@ use Rattle.alloc.specs.declared.Pointers.TheVariants.{Bap, Hebap}
 use Rattle.alloc.proofs.Lists.{length-tab, get_d-tab}
 
 -- 'bap above 15', 'hebap above 19': no pointer that is allocated is above its table's largest
-module _ (kind : Pointers) (most : ℕ) (table : (k : ℕ) → get_or (table_of kind) k 0 ≤ most) (exp : List ℕ) (c : Channel) (q : Params) (l : Leak) (d : Deltas) where
+module _ (kind : Pointers) (most : ℕ) (table : (k : ℕ) → get_or (table_of kind) k 0 ≤ most) (exp : List ℕ) (c : Channel) (q : Params) (l : Option Leak) (d : Deltas) where
   at_most : (t : Bool) (x : ℕ) → x ≤ most → cond t x 0 ≤ most
   at_most true x h = h
   at_most false x h = omega arith
@@ -40,13 +41,13 @@ module _ (kind : Pointers) (most : ℕ) (table : (k : ℕ) → get_or (table_of 
       go (yes h) = rw (get_d-tab f 256 bin h) (at_most (leb c.start bin && ltb bin c.end) (pointer kind exp c q l d bin) (table _))
       go (no h) = past h
 
-pub bap-within : (exp : List ℕ) (c : Channel) (q : Params) (l : Leak) (d : Deltas) (bin : ℕ) → get_or (allocation Bap exp c q l d) bin 0 ≤ 15
+pub bap-within : (exp : List ℕ) (c : Channel) (q : Params) (l : Option Leak) (d : Deltas) (bin : ℕ) → get_or (allocation Bap exp c q l d) bin 0 ≤ 15
 bap-within exp c q l d bin = within Bap 15 bap-at-most-15 exp c q l d bin
 
-pub hebap-within : (exp : List ℕ) (c : Channel) (q : Params) (l : Leak) (d : Deltas) (bin : ℕ) → get_or (allocation Hebap exp c q l d) bin 0 ≤ 19
+pub hebap-within : (exp : List ℕ) (c : Channel) (q : Params) (l : Option Leak) (d : Deltas) (bin : ℕ) → get_or (allocation Hebap exp c q l d) bin 0 ≤ 19
 hebap-within exp c q l d bin = within Hebap 19 hebap-at-most-19 exp c q l d bin
 
 -- so that none is above 19
-pub pointer-within : (kind : Pointers) (exp : List ℕ) (c : Channel) (q : Params) (l : Leak) (d : Deltas) (bin : ℕ) → get_or (allocation kind exp c q l d) bin 0 ≤ 19
+pub pointer-within : (kind : Pointers) (exp : List ℕ) (c : Channel) (q : Params) (l : Option Leak) (d : Deltas) (bin : ℕ) → get_or (allocation kind exp c q l d) bin 0 ≤ 19
 pointer-within Bap exp c q l d bin = let h = bap-within exp c q l d bin in omega arith
 pointer-within Hebap exp c q l d bin = hebap-within exp c q l d bin

@@ -1,12 +1,11 @@
 -- What the code keeps of the last allocation of each slot, so as to use its pointers again. The definition of a block knows nothing of it.
-use Rattle.std.specs.Prelude.{◌≡◌, true, false, cond, List, [], ◌∷◌, ℕ, zero, suc, ◌+◌, ◌-◌, ◌*◌, ◌/◌, ◌%◌, ◌<◌, ◌≤◌, min, eqb, ltb, length, get_or}
+use Rattle.std.specs.Prelude.{◌≡◌, true, false, cond, Option, Some, None, List, [], ◌∷◌, ℕ, zero, suc, ◌+◌, ◌-◌, ◌*◌, ◌/◌, ◌%◌, ◌<◌, ◌≤◌, min, eqb, ltb, length, get_or}
 use Rattle.tables.specs.BitAllocation.{fastgain}
 use Rattle.alloc.specs.Allocation.{params_of, leak_of, allocation}
 use Rattle.alloc.specs.declared.Params.{Params}
 use Rattle.alloc.specs.declared.Channel.{Channel}
 use Rattle.alloc.specs.declared.Deltas.{Deltas}
 use Rattle.alloc.specs.declared.Leak.{Leak}
-use Rattle.alloc.specs.declared.Leak.TheVariants.{Absent}
 use Rattle.alloc.specs.declared.Pointers.{Pointers}
 use Rattle.alloc.specs.declared.Pointers.TheVariants.{Bap, Hebap}
 use Rattle.slots.specs.Slots.{CPL, LFE, requested_of}
@@ -47,8 +46,8 @@ channel_by own = record { start = start_by own; end = end_by own; fgain = get_or
 abbrev pub params_by : ℕ → Params
 params_by common = params_of (byte_of common 0) (byte_of common 1) (byte_of common 2) (byte_of common 3) (byte_of common 4) (byte_of common 5)
 
-abbrev pub leak_by : ℕ → ℕ → Leak
-leak_by slot common = cond (eqb slot CPL) (leak_of (byte_of common 6) (byte_of common 7)) Absent
+abbrev pub leak_by : ℕ → ℕ → Option Leak
+leak_by slot common = cond (eqb slot CPL) (Some (leak_of (byte_of common 6) (byte_of common 7))) None
 
 -- and the segments
 abbrev pub many_by : ℕ → ℕ → ℕ

@@ -1,12 +1,11 @@
 -- The state of bit allocation and the pointers of a block (A/52 clause 7.2.2.1, TS 102 366 clause 6.2.2.1; deltas: 7.2.2.6 and 6.2.2.6).
-use Rattle.std.specs.Prelude.{◌≡◌, Bool, false, cond, List, [], ◌∷◌, ◌++◌, ℕ, zero, suc, ◌+◌, ◌*◌, min, eqb, ltb, get_or, take, drop, replicate}
+use Rattle.std.specs.Prelude.{◌≡◌, Bool, false, cond, Option, Some, None, List, [], ◌∷◌, ◌++◌, ℕ, zero, suc, ◌+◌, ◌*◌, min, eqb, ltb, get_or, take, drop, replicate}
 use Rattle.tables.specs.BitAllocation.{fastgain}
 use Rattle.alloc.specs.Allocation.{params_of, leak_of, allocation}
 use Rattle.alloc.specs.declared.Params.{Params}
 use Rattle.alloc.specs.declared.Channel.{Channel}
 use Rattle.alloc.specs.declared.Deltas.{Deltas}
 use Rattle.alloc.specs.declared.Leak.{Leak}
-use Rattle.alloc.specs.declared.Leak.TheVariants.{Absent}
 use Rattle.alloc.specs.declared.Pointers.{Pointers}
 use Rattle.alloc.specs.declared.Pointers.TheVariants.{Bap, Hebap}
 use Rattle.slots.specs.Slots.{CPL, LFE}
@@ -73,8 +72,8 @@ channel_of st shape slot =
       fsnroffst = get_or st.fsnroffst slot 0;
     }
 
-unfoldable pub leak_for : AllocState → ℕ → Leak
-leak_for st slot = cond (eqb slot CPL) (leak_of st.cplfleak st.cplsleak) Absent
+unfoldable pub leak_for : AllocState → ℕ → Option Leak
+leak_for st slot = cond (eqb slot CPL) (Some (leak_of st.cplfleak st.cplsleak)) None
 
 unfoldable pub kind_of : Shape → ℕ → Pointers
 kind_of shape slot = cond (get_or shape.ahtinu slot false) Hebap Bap

@@ -11,7 +11,7 @@ ghost use Rattle.allocation.specs.Coded.{Coded};
 ghost use Rattle.allocation.specs.Memo.{Packs, kind_by, channel_by, params_by, leak_by, many_by, deltas_by, allocation_by, Owned, Owns, CodedBy, deltas_of, Says, points_by, Passes, Memo};
 
 use crate::memo::{bytes, word};
-use alloc::{Channel, Deltas, Leak, Params, Pointers};
+use alloc::{Channel, Deltas, Leak, Params, Pointers, Tables};
 use kept::{Source, kept, note};
 use mantissas::tally::shares;
 use silence::silent;
@@ -246,14 +246,14 @@ fn params_in(common: u64) -> Params
     alloc::params_of(b[0], b[1], b[2], b[3], b[4], index(b[5]))
 }
 
-fn leak_in(common: u64, slot: u8) -> Leak
+fn leak_in(common: u64, slot: u8) -> Option<Leak>
     ensures { result ≡ leak_by slot common }
 {
     if slot == CPL {
         let b = bytes(common);
-        return alloc::leak_of(b[6], b[7]);
+        return Some(alloc::leak_of(b[6], b[7]));
     }
-    Leak::Absent
+    None
 }
 
 fn deltas_in(s: Source, slot: u8) -> Deltas
@@ -294,21 +294,15 @@ fn renew(
     let d = deltas_in(s, slot);
     let a = 256 * (slot as usize);
     let e = a + 256;
-    let tally = pointers::allocate(
+    let tables = Tables {
         latab,
         masktab,
         ends,
         hth,
         points,
         shares,
-        &exps[a..e],
-        &mut baps[a..e],
-        c,
-        p,
-        l,
-        d,
-        kind,
-    );
+    };
+    let tally = pointers::allocate(&tables, &exps[a..e], &mut baps[a..e], c, p, l, d, kind);
     note(memo, slot as usize, s, tally);
 }
 

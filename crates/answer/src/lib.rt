@@ -7,8 +7,9 @@ ghost use Rattle.answer.specs.Cursors.{refusal_from, answer_from};
 
 use bits::{BitPlace, ByteCount};
 use cells::{cell_of, numbers as c};
-use sideinfo::flags::flag;
-use sideinfo::shapes::seven_flags;
+use sideinfo::flags::{flag, flags};
+use sideinfo::shapes::values;
+use std::array;
 use syntax::Cursor;
 
 // An accepted frame, or the refusal's number, its bit place, and the records that were written.
@@ -52,19 +53,12 @@ pub struct Answer {
     pub frame: Frame,
 }
 
-// Six places, from the cell k on.
-fn six_places(cells: &[u16; 1024], k: usize) -> [BitPlace; 6]
-    requires { k ≤ 1024 }
-    ensures { result ≡ places_of cells.now k 6 }
+// N places, from the cell k on.
+fn places<const N: usize>(cells: &[u16; 1024], k: usize) -> [BitPlace; N]
+    requires { (k ≤ 1024) × (N ≤ 1024) }
+    ensures { result ≡ places_of cells.now k N }
 {
-    [
-        BitPlace(cell_of(cells, k)),
-        BitPlace(cell_of(cells, k + 1)),
-        BitPlace(cell_of(cells, k + 2)),
-        BitPlace(cell_of(cells, k + 3)),
-        BitPlace(cell_of(cells, k + 4)),
-        BitPlace(cell_of(cells, k + 5)),
-    ]
+    array::from_fn(|i| BitPlace(cell_of(cells, k + i)))
 }
 
 // The bits of the slots of a block, from the cell k on; those of six blocks.
@@ -73,29 +67,14 @@ fn bits_of_block(cells: &[u16; 1024], k: usize) -> SlotBits
     ensures { result ≡ slot_bits_at cells.now k }
 {
     SlotBits {
-        bits: [
-            cell_of(cells, k),
-            cell_of(cells, k + 1),
-            cell_of(cells, k + 2),
-            cell_of(cells, k + 3),
-            cell_of(cells, k + 4),
-            cell_of(cells, k + 5),
-            cell_of(cells, k + 6),
-        ],
+        bits: values(cells, k),
     }
 }
 
 fn bits_of_blocks(cells: &[u16; 1024]) -> [SlotBits; 6]
     ensures { result ≡ slot_bits_in cells.now }
 {
-    [
-        bits_of_block(cells, c::SLOT_BITS),
-        bits_of_block(cells, c::SLOT_BITS + 8),
-        bits_of_block(cells, c::SLOT_BITS + 16),
-        bits_of_block(cells, c::SLOT_BITS + 24),
-        bits_of_block(cells, c::SLOT_BITS + 32),
-        bits_of_block(cells, c::SLOT_BITS + 40),
-    ]
+    array::from_fn(|b| bits_of_block(cells, c::SLOT_BITS + 8 * b))
 }
 
 // What the cells tell of an accepted frame that ends at a place.
@@ -110,11 +89,11 @@ fn frame_of(cells: &[u16; 1024], at: BitPlace, count: usize) -> Frame
     let strmtyp = cell_of(cells, c::STRMTYP);
     let substreamid = cell_of(cells, c::SUBSTREAMID);
     let numblks = cell_of(cells, c::NUMBLKS);
-    let block_starts = six_places(cells, c::BLOCK_STARTS);
-    let mantissa_starts = six_places(cells, c::MANTISSA_STARTS);
+    let block_starts = places(cells, c::BLOCK_STARTS);
+    let mantissa_starts = places(cells, c::MANTISSA_STARTS);
     let audio_end = cell_of(cells, c::AUDIO_END);
     let aht_tags = cell_of(cells, c::AHT_TAGS);
-    let aht_slots = seven_flags(cells, c::AHTINU);
+    let aht_slots = flags(cells, c::AHTINU);
     let spx_blocks = cell_of(cells, c::SPX_BLOCKS);
     let cpl_blocks = cell_of(cells, c::CPL_BLOCKS);
     let slot_bits = bits_of_blocks(cells);

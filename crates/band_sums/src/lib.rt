@@ -8,7 +8,7 @@ ghost use Rattle.tables.specs.Bands.{band_of};
 ghost use Rattle.alloc.specs.Levels.{psd_l, LogSum, steps_below, range_l};
 ghost use Rattle.alloc.specs.Premises.{Exponents};
 
-use alloc::{end_of, wide};
+use alloc::end_of;
 
 // The larger of two powers that lie d apart, raised as log addition says. From 510 on the table has 0.
 fn raised(latab: &[u8; 256], top: u32, d: u32) -> u32
@@ -16,8 +16,7 @@ fn raised(latab: &[u8; 256], top: u32, d: u32) -> u32
     ensures { result ≡ top + get_or laTab (min (d / 2) 255) 0 }
 {
     if d < 510 {
-        let i = (d / 2) as usize;
-        top + wide(latab[i])
+        top + u32::from(latab[(d / 2) as usize])
     } else {
         top
     }
@@ -40,7 +39,7 @@ fn power(e: u8) -> u32
     requires { e ≤ 24 }
     ensures { result ≡ psd_l e }
 {
-    8192 + 3072 - 128 * wide(e)
+    8192 + 3072 - 128 * u32::from(e)
 }
 
 // The same in steps of 32 below 3072.
@@ -72,8 +71,7 @@ pub fn bands(
     let mut s = power(o);
     let mut k = first;
     let mut to = end_of(ends, first);
-    let mut j = start + 1;
-    while j < end {
+    for j in start + 1..end {
         let e = exps[j];
         powers[j] = below(e);
         let p = power(e);
@@ -85,7 +83,6 @@ pub fn bands(
         } else {
             s = logadd(latab, s, p);
         }
-        j += 1;
     }
     bnd[k] = s;
 }

@@ -5,15 +5,14 @@ use Rattle.refusals.specs.Refusals.{number_of}
 use Rattle.refusals.specs.declared.Refused.{Refused}
 use Rattle.mantissas.specs.Outcomes.{groups_outcome}
 use Rattle.hybrid.specs.Outcomes.{slot_outcome}
-use Rattle.exponents.specs.declared.Group.{Group}
-use Rattle.exponents.specs.declared.Group.TheVariants.{Refused as Stopped, Moved}
+use Rattle.exponents.specs.Exponents.{Group}
 use Rattle.mantissas.specs.declared.Groups.{Groups}
 use Rattle.mantissas.specs.declared.Passed.{Passed}
 use Rattle.hybrid.specs.declared.Transformed.{Transformed}
 
 abbrev pub packed_group : Group → ℕ
-packed_group (Stopped n) = 16777216 * n
-packed_group (Moved a b c) = a + 256 * b + 65536 * c
+packed_group (Err r) = 16777216 * number_of r
+packed_group (Ok (a, b, c)) = a + 256 * b + 65536 * c
 
 -- the number of the refusal or 0, the place, and three counts
 abbrev pub packed : ℕ → ℕ → ℕ → ℕ → ℕ → ℕ

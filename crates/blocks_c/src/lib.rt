@@ -13,7 +13,6 @@ ghost use Rattle.blocks_c.specs.Flat.{sent_of, state_of, shape_of};
 
 use allocation::{AllocState, Codes, Parameters};
 use bits::BitPlace;
-use exponents::Group;
 use mantissas::Groups;
 use slots::Shape;
 
@@ -60,23 +59,16 @@ pub extern "C" fn blocks_lay(
     requires { length exps.old ≡ 1792 }
     ensures { exps.new ≡ laid_of exps.old slot (size_of strategy) bin a b c }
 {
-    exponents::lay(exps, slot, strategy, bin as u32, a, b, c);
-}
-
-fn wide(x: u8) -> u32
-    ensures { (result ≡ x) × (result < 256) }
-{
-    x as u32
+    exponents::lay(exps, slot, strategy, u32::from(bin), a, b, c);
 }
 
 #[unsafe(no_mangle)]
 pub extern "C" fn blocks_decode(prev: u8, group: u8) -> u32
     ensures { result ≡ packed_group (decode_of prev group) }
 {
-    let g = exponents::decode(prev as u32, group as u32);
-    match g {
-        Group::Refused(n) => 16777216 * wide(n),
-        Group::Moved(a, b, c) => a + 256 * b + 65536 * c,
+    match exponents::decode(u32::from(prev), u32::from(group)) {
+        Err(refusal) => 16777216 * u32::from(refusal.number()),
+        Ok((a, b, c)) => a + 256 * b + 65536 * c,
     }
 }
 

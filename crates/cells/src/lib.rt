@@ -3,7 +3,7 @@
 
 pub mod numbers;
 
-ghost use Rattle.std.specs.Prelude.{◌≡◌, ◌%◌};
+ghost use Rattle.std.specs.Prelude.{◌≡◌};
 ghost use Rattle.cells.specs.Cells.{cell_of, put_in};
 
 // What a cell holds, read without a jump.
@@ -15,19 +15,12 @@ pub fn cell_of(cells: &[u16; 1024], k: usize) -> u16
     if i == 0 { 0 } else { v }
 }
 
-fn low(v: u32) -> u16
-    ensures { result ≡ v % 65536 }
-{
-    (v % 65536) as u16
-}
-
 // Puts a value into a cell.
 pub fn put(cells: &mut [u16; 1024], k: usize, v: u32)
     ensures { cells.new ≡ put_in cells.old k v }
 {
     let i = k % 1024;
-    if i == 0 {
-        return;
+    if i != 0 {
+        cells[i] = (v % 65536) as u16;
     }
-    cells[i] = low(v);
 }

@@ -42,7 +42,12 @@ pub fn derive(
         11 => cpl_range(cells),
         12 => ncplbnd(cells),
         13 => nrematbd(cells),
-        14 => return endmants_in(cells),
+        14 => {
+            return match endmants_in(cells) {
+                Ok(()) => 0,
+                Err(refusal) => refusal.number(),
+            };
+        }
         15 => defaults(cells),
         16 => return allocate_in(cells, exps, baps, memo),
         17 => aht_read(cells),

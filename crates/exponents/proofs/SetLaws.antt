@@ -17,14 +17,15 @@ use Rattle.syntax.specs.Rooms.{Fills, Same}
 use Rattle.syntax.specs.Records.{part, outcome, going_at, halted_at}
 use Rattle.syntax.specs.declared.Cursor.{Cursor}
 use Rattle.syntax.proofs.Rooms.{same_refl, same-trans, same-fills}
+use Rattle.std.specs.Prelude.{Ok, Err}
+use Rattle.refusals.specs.Refusals.{number_of}
+use Rattle.refusals.specs.declared.Refusal.{Refusal}
 use Rattle.slots.specs.Slots.{CPL}
 use Rattle.slots.specs.Held.{Held}
 use Rattle.slots.proofs.Tests.{both}
-use Rattle.exponents.specs.Exponents.{decode_of, size_of, groups_of, start_of, first_of, put_of, spread_of, laid_of}
+use Rattle.exponents.specs.Exponents.{Group, decode_of, size_of, groups_of, start_of, first_of, put_of, spread_of, laid_of}
 use Rattle.exponents.specs.Set.{on_group, groups_from, begun_of, set_of}
 use Rattle.exponents.specs.SetRead.{Laid, SetRead}
-use Rattle.exponents.specs.declared.Group.{Group}
-use Rattle.exponents.specs.declared.Group.TheVariants.{Refused, Moved}
 use Rattle.exponents.proofs.ExpLaws.{Low, decode-low, start-low, put-held}
 
 -- exponents of one slot, laid one after another
@@ -97,8 +98,8 @@ module _ (s : List ℕ) (l : ℕ) (q : Part) (slot size : ℕ) where
 
       go : ((x y z : ℕ) → (run (groups_from q slot size n (bin + 3 * size) z (laid_of exps slot size bin x y z)) s (p + 7) l).result ≡ accepted b → Laid slot (laid_of exps slot size bin x y z) b)
           → (g : Group) → decode_of prev (bits_at s p 7) ≡ g → (run (rest g) s (p + 7) l).result ≡ accepted b → Laid slot exps b
-      go f (Refused k) h r = absurd (never b k r)
-      go f (Moved x y z) h r = laid_then (laid-group exps slot size bin x y z (decode-low x y z prev (bits_at s p 7) h)) (f x y z r)
+      go f (Err k) h r = absurd (never b (number_of k) r)
+      go f (Ok (x, y, z)) h r = laid_then (laid-group exps slot size bin x y z (decode-low x y z prev (bits_at s p 7) h)) (f x y z r)
 
 pub set-laid : (s : List ℕ) (l : ℕ) (q : Part) (slot strategy start end absexp : ℕ) (exps : List ℕ) (p : ℕ) (b : List ℕ) → absexp ≤ 15
     → (run (set_of q slot strategy start end absexp exps) s p l).result ≡ accepted b → Laid slot exps b
@@ -131,11 +132,11 @@ module _ (s : List ℕ) (l : ℕ) (q : Part) (slot size : ℕ) where
         group-full h e x = rw (one_more, e, le-leb (p + 7) l within, fills.is, le-leb most n h)
 
         module _ (free : n < most) (v : ℕ) (ev : v ≡ bits_at s p 7) (g : Group) (eg : g ≡ decode_of prev v) (m' : Room) (em : m' ≡ pushed m n (field_of q p 7 v)) where
-          pub group-refused : (k : ℕ) → g ≡ Refused k → c ≡ halted_at (p + 7) (n + 1) k → (x : List ℕ) → outcome c x m' ≡ rest left bin prev exps p n m
+          pub group-refused : (k : Refusal) → g ≡ Err k → c ≡ halted_at (p + 7) (n + 1) (number_of k) → (x : List ℕ) → outcome c x m' ≡ rest left bin prev exps p n m
           unfolding exec groups_from
           group-refused k h e x = rw (one_more, e, em, le-leb (p + 7) l within, fills.is, lt-leb most n free, ← ev, ← eg, h)
 
-          pub group-moved : (x y z : ℕ) → g ≡ Moved x y z → (exps' : List ℕ) → exps' ≡ laid_of exps slot size bin x y z
+          pub group-moved : (x y z : ℕ) → g ≡ Ok (x, y, z) → (exps' : List ℕ) → exps' ≡ laid_of exps slot size bin x y z
               → rest left bin prev exps p n m ≡ rest (left - 1) (bin + 3 * size) z exps' (p + 7) (n + 1) m'
           unfolding exec groups_from
           group-moved x y z h exps' eb =
@@ -197,11 +198,11 @@ module _ {s : List ℕ} {l name : ℕ} {b i : ℤ} {slot size : ℕ} {o : Out (L
       standing-full h c e = group-full s l (part name b i) slot size left bin prev exps p n m c some within most at.fills h e exps ∙ sym at.whole
 
       module _ (free : n < most) (v : ℕ) (ev : v ≡ bits_at s p 7) (g : Group) (eg : g ≡ decode_of prev v) where
-        pub standing-refused : (k : ℕ) → g ≡ Refused k → (c : Cursor) → c ≡ halted_at (p + 7) (n + 1) k → outcome c exps (kept m n name b i p v) ≡ o
+        pub standing-refused : (k : Refusal) → g ≡ Err k → (c : Cursor) → c ≡ halted_at (p + 7) (n + 1) (number_of k) → outcome c exps (kept m n name b i p v) ≡ o
         standing-refused k h c e =
             group-refused s l (part name b i) slot size left bin prev exps p n m c some within most at.fills free v ev g eg (kept m n name b i p v) (kept-is m n name p v b i) k h e exps ∙ sym at.whole
 
-        pub standing-moved : (x y z : ℕ) → g ≡ Moved x y z → (exps' : List ℕ) → exps' ≡ laid_of exps slot size bin x y z → size ≤ 4 → (step : ℕ) → step ≡ 3 * size
+        pub standing-moved : (x y z : ℕ) → g ≡ Ok (x, y, z) → (exps' : List ℕ) → exps' ≡ laid_of exps slot size bin x y z → size ≤ 4 → (step : ℕ) → step ≡ 3 * size
             → Standing s l (part name b i) slot size o most old first (left - 1) (bin + step) z exps' (p + 7) (n + 1) (kept m n name b i p v)
         standing-moved x y z h exps' eb small step es =
             record {

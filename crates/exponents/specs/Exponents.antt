@@ -1,25 +1,27 @@
 -- Exponents out of their groups (A/52 clause 7.1.3, TS 102 366 clause 6.1.3).
-use Rattle.std.specs.Prelude.{◌&&◌, cond, List, ℕ, zero, suc, ◌+◌, ◌-◌, ◌*◌, ◌/◌, ◌%◌, leb, ltb, eqb, set}
+use Rattle.std.specs.Prelude.{Option, Some, None, Result, Ok, Err, ◌&&◌, cond, List, ℕ, zero, suc, ◌+◌, ◌-◌, ◌*◌, ◌/◌, ◌%◌, leb, ltb, eqb, set}
 use Rattle.slots.specs.Slots.{CPL, LFE}
-use Rattle.exponents.specs.declared.Group.{Group}
-use Rattle.exponents.specs.declared.Group.TheVariants.{Refused, Moved}
-use Rattle.exponents.specs.declared.Next.{Next}
-use Rattle.exponents.specs.declared.Next.TheVariants.{Outside, To}
+use Rattle.refusals.specs.declared.Refusal.{Refusal}
+use Rattle.refusals.specs.declared.Refusal.TheVariants.{GroupedExponent, ExponentOutside}
 
 -- a mapped value is the difference to the exponent before, plus 2; an exponent lies from 0 to 24
-unfoldable pub next_of : ℕ → ℕ → Next
-next_of prev m = cond (leb 2 (prev + m) && leb (prev + m) 26) (To (prev + m - 2)) Outside
+unfoldable pub next_of : ℕ → ℕ → Option ℕ
+next_of prev m = cond (leb 2 (prev + m) && leb (prev + m) 26) (Some (prev + m - 2)) None
+
+-- the three exponents of a group, or its refusal
+abbrev pub Group : Type 0
+Group = Result (ℕ × ℕ × ℕ) Refusal
 
 -- on with the exponent, or refusal 27
-abbrev pub on_to : Next → (ℕ → Group) → Group
-on_to Outside k = Refused 27
-on_to (To e) k = k e
+abbrev pub on_to : Option ℕ → (ℕ → Group) → Group
+on_to None k = Err ExponentOutside
+on_to (Some e) k = k e
 
 -- three exponents after the one before: M1 = grp / 25, M2 = (grp % 25) / 5, M3 = (grp % 25) % 5
 unfoldable pub decode_of : ℕ → ℕ → Group
 decode_of prev grp =
-    cond (ltb 124 grp) (Refused 11)
-    (on_to (next_of prev (grp / 25)) (λ a. on_to (next_of a (grp % 25 / 5)) (λ b. on_to (next_of b (grp % 25 % 5)) (λ c. Moved a b c))))
+    cond (ltb 124 grp) (Err GroupedExponent)
+    (on_to (next_of prev (grp / 25)) (λ a. on_to (next_of a (grp % 25 / 5)) (λ b. on_to (next_of b (grp % 25 % 5)) (λ c. Ok (a, b, c)))))
 
 -- grpsize: 1, 2, 4 for D15, D25, D45, the strategies 1, 2, 3
 unfoldable pub size_of : ℕ → ℕ

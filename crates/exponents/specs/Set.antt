@@ -1,15 +1,14 @@
 -- A set of exponents, read group by group, each decoded before the next (A/52 clause 7.1.3, TS 102 366 clause 6.1.3).
-use Rattle.std.specs.Prelude.{cond, List, ℕ, zero, suc, ◌+◌, ◌*◌, eqb}
+use Rattle.std.specs.Prelude.{Ok, Err, cond, List, ℕ, zero, suc, ◌+◌, ◌*◌, eqb}
 use Rattle.reading.specs.Tree.{Part, Tree, done, refuse, read}
 use Rattle.slots.specs.Slots.{CPL}
-use Rattle.exponents.specs.Exponents.{decode_of, size_of, groups_of, start_of, first_of, put_of, laid_of}
-use Rattle.exponents.specs.declared.Group.{Group}
-use Rattle.exponents.specs.declared.Group.TheVariants.{Refused, Moved}
+use Rattle.refusals.specs.Refusals.{number_of}
+use Rattle.exponents.specs.Exponents.{Group, decode_of, size_of, groups_of, start_of, first_of, put_of, laid_of}
 
 -- on with the three exponents of a group, or its refusal
 abbrev pub on_group : {A : Type 0} → Group → (ℕ → ℕ → ℕ → Tree A) → Tree A
-on_group (Refused k) f = refuse k
-on_group (Moved a b c) f = f a b c
+on_group (Err k) f = refuse (number_of k)
+on_group (Ok (a, b, c)) f = f a b c
 
 -- n groups of 7 bits; each moves from the exponent before it
 unfoldable pub groups_from : Part → ℕ → ℕ → ℕ → ℕ → ℕ → List ℕ → Tree (List ℕ)

@@ -2,107 +2,81 @@
 //
 // `exps` holds seven slots of 256 exponents: of the five full bandwidth channels, the coupling channel (5)
 // and the LFE channel (6).
+// Stays: one array and not seven, since `put_of`, `Held` and `pointed_of` of specs speak of one list of 1,792.
 #![tactic(auto)]
 
-ghost use Rattle.std.specs.Prelude.{◌≡◌, true, ◌+◌, ◌-◌, ◌<◌, ◌≤◌, length};
+ghost use Rattle.std.specs.Prelude.{◌≡◌, ◌+◌, ◌*◌, ◌<◌, ◌≤◌, length};
 ghost use Rattle.exponents.specs.Exponents.{next_of, decode_of, size_of, groups_of, start_of, first_of, put_of, spread_of, laid_of};
 
+use refusals::Refusal;
 use slots::{CPL, LFE};
 
 pub mod set; // a set of exponents, read group by group
 
 // An exponent after one step, or none where it leaves 0 to 24.
-#[derive(Clone, Copy)]
-pub enum Next {
-    Outside,
-    To(u32),
-}
-
-// What a group comes to: three exponents, or a refusal.
-#[derive(Clone, Copy)]
-pub enum Group {
-    Refused(u8),
-    Moved(u32, u32, u32),
-}
-
-fn step(prev: u32, m: u32) -> Next
+#[tactic(auto, using(std::proofs::lemmas::Bool::Decides::nat_tests), unfolding(crate::specs::Exponents::next_of))]
+fn step(prev: u32, m: u32) -> Option<u32>
     requires { (prev < 256) × (m < 5) }
     ensures { result ≡ next_of prev m }
 {
-    let sum = prev + m;
-    if sum < 2 {
-        return Next::Outside;
+    match prev + m {
+        sum @ 2..=26 => Some(sum - 2),
+        _ => None,
     }
-    if 26 < sum {
-        return Next::Outside;
-    }
-    Next::To(sum - 2)
 }
 
-// The three exponents of a group, from the exponent before it: 11 for a group above 124, and 27 where
+// The three exponents of a group, from the exponent before it; refused where the group is above 124, and where
 // an exponent leaves 0 to 24.
-pub fn decode(prev: u32, group: u32) -> Group
+pub fn decode(prev: u32, group: u32) -> Result<(u32, u32, u32), Refusal>
     requires { prev < 256 }
     ensures { result ≡ decode_of prev group }
 {
     if 124 < group {
-        return Group::Refused(11);
+        return Err(Refusal::GroupedExponent);
     }
-    let Next::To(a) = step(prev, group / 25) else {
-        return Group::Refused(27);
-    };
-    let Next::To(b) = step(a, group % 25 / 5) else {
-        return Group::Refused(27);
-    };
-    let Next::To(c) = step(b, group % 25 % 5) else {
-        return Group::Refused(27);
-    };
-    Group::Moved(a, b, c)
+    let a = step(prev, group / 25).ok_or(Refusal::ExponentOutside)?;
+    let b = step(a, group % 25 / 5).ok_or(Refusal::ExponentOutside)?;
+    let c = step(b, group % 25 % 5).ok_or(Refusal::ExponentOutside)?;
+    Ok((a, b, c))
 }
 
 // How many bins share an exponent: strategy 1 is D15, 2 is D25, 3 is D45.
+#[tactic(auto, using(std::proofs::lemmas::Bool::Decides::nat_tests), unfolding(crate::specs::Exponents::size_of))]
 pub fn group_size(strategy: u8) -> u32
     ensures { (result ≡ size_of strategy) × (1 ≤ result) × (result ≤ 4) }
 {
-    if strategy == 3 {
-        return 4;
+    match strategy {
+        3 => 4,
+        2 => 2,
+        _ => 1,
     }
-    if strategy == 2 {
-        return 2;
-    }
-    1
-}
-
-fn less(a: u32, b: u32) -> u32
-    ensures { result ≡ a - b }
-{
-    if b <= a { a - b } else { 0 }
 }
 
 // The number of groups of a set that ends before the bin `end`, of the coupling channel from `start` on.
+#[tactic(auto, using(std::proofs::lemmas::Bool::Decides::nat_tests), unfolding(crate::specs::Exponents::groups_of))]
 pub fn groups(slot: u8, strategy: u8, start: u16, end: u16) -> u16
     ensures { result ≡ groups_of slot strategy start end }
 {
     let size = 3 * group_size(strategy);
-    if slot == CPL {
-        return (less(end as u32, start as u32) / size) as u16;
+    match slot {
+        CPL => (u32::from(end.saturating_sub(start)) / size) as u16,
+        LFE => 2,
+        _ => ((u32::from(end.saturating_sub(1)) + (size - 3)) / size) as u16,
     }
-    if slot == LFE {
-        return 2;
-    }
-    ((less(end as u32, 1) + (size - 3)) / size) as u16
 }
 
 // The value that the first group counts from.
+#[tactic(auto, using(std::proofs::lemmas::Bool::Decides::nat_tests), unfolding(crate::specs::Exponents::start_of))]
 pub fn start_of(slot: u8, absexp: u8) -> u32
     requires { absexp ≤ 15 }
     ensures { result ≡ start_of slot absexp }
 {
-    let value = absexp as u32;
+    let value = u32::from(absexp);
     if slot == CPL { 2 * value } else { value }
 }
 
 // The bin that the first group's exponents begin at.
+#[tactic(auto, using(std::proofs::lemmas::Bool::Decides::nat_tests), unfolding(crate::specs::Exponents::first_of))]
 pub fn first_of(slot: u8, start: u16) -> u16
     ensures { result ≡ first_of slot start }
 {
@@ -110,132 +84,71 @@ pub fn first_of(slot: u8, start: u16) -> u16
 }
 
 // The exponent of a bin; nothing where there is no such slot or bin.
+#[tactic(auto, using(std::proofs::lemmas::Bool::Decides::nat_tests), unfolding(crate::specs::Exponents::put_of))]
 pub fn put(exps: &mut [u8; 1792], slot: u8, bin: u32, e: u8)
     requires { length exps.old ≡ 1792 }
     ensures { exps.new ≡ put_of exps.old slot bin e }
 {
-    if 7 <= slot {
-        return;
-    }
-    if bin < 256 {
-        let i = 256 * (slot as usize) + bin as usize;
-        exps[i] = e;
+    if slot < 7 && bin < 256 {
+        exps[256 * usize::from(slot) + bin as usize] = e;
     }
 }
 
-// One exponent for two bins, for four, and for as many as the strategy has it.
-fn put_two(exps: &mut [u8; 1792], slot: u8, bin: u32, e: u8)
-    requires { (length exps.old ≡ 1792) × (bin + 2 < 4294967296) }
-    ensures { exps.new ≡ spread_of exps.old slot bin 2 e }
+// One exponent for `size` bins, of which the slot may not have all.
+fn spread(exps: &mut [u8; 1792], slot: u8, bin: u32, size: u32, e: u8)
+    requires { (length exps.old ≡ 1792) × (bin + size < 4294967296) }
+    ensures { exps.new ≡ spread_of exps.old slot bin size e }
 {
-    put(exps, slot, bin, e);
-    put(exps, slot, bin + 1, e);
-}
-
-fn put_four(exps: &mut [u8; 1792], slot: u8, bin: u32, e: u8)
-    requires { (length exps.old ≡ 1792) × (bin + 4 < 4294967296) }
-    ensures { exps.new ≡ spread_of exps.old slot bin 4 e }
-{
-    put_two(exps, slot, bin, e);
-    put_two(exps, slot, bin + 2, e);
-}
-
-fn spread(exps: &mut [u8; 1792], slot: u8, strategy: u8, bin: u32, e: u8)
-    requires { (length exps.old ≡ 1792) × (bin + 4 < 4294967296) }
-    ensures { exps.new ≡ spread_of exps.old slot bin (size_of strategy) e }
-{
-    if strategy == 3 {
-        put_four(exps, slot, bin, e);
-        return;
+    for k in bin..bin + size {
+        put(exps, slot, k, e);
     }
-    if strategy == 2 {
-        put_two(exps, slot, bin, e);
-        return;
+}
+
+// One exponent for N bins that the slot has.
+// Stays: beside `spread`, whose test of each bin takes a tenth more time a group.
+fn spread_in<const N: usize>(exps: &mut [u8; 1792], slot: u8, bin: u32, e: u8)
+    requires { (length exps.old ≡ 1792) × (slot < 7) × (bin + N ≤ 256) }
+    ensures { exps.new ≡ spread_of exps.old slot bin N e }
+{
+    let first = 256 * usize::from(slot) + bin as usize;
+    for k in 0..N {
+        exps[first + k] = e;
     }
-    put(exps, slot, bin, e);
-}
-
-// The same of one, two and four bins that the slot has.
-fn one(exps: &mut [u8; 1792], slot: u8, bin: u32, e: u8)
-    requires { (length exps.old ≡ 1792) × (slot < 7) × (bin < 256) }
-    ensures { exps.new ≡ spread_of exps.old slot bin 1 e }
-{
-    let i = 256 * (slot as usize) + bin as usize;
-    exps[i] = e;
-}
-
-fn two(exps: &mut [u8; 1792], slot: u8, bin: u32, e: u8)
-    requires { (length exps.old ≡ 1792) × (slot < 7) × (bin + 1 < 256) }
-    ensures { exps.new ≡ spread_of exps.old slot bin 2 e }
-{
-    let i = 256 * (slot as usize) + bin as usize;
-    exps[i] = e;
-    exps[i + 1] = e;
-}
-
-fn four(exps: &mut [u8; 1792], slot: u8, bin: u32, e: u8)
-    requires { (length exps.old ≡ 1792) × (slot < 7) × (bin + 3 < 256) }
-    ensures { exps.new ≡ spread_of exps.old slot bin 4 e }
-{
-    let i = 256 * (slot as usize) + bin as usize;
-    exps[i] = e;
-    exps[i + 1] = e;
-    exps[i + 2] = e;
-    exps[i + 3] = e;
-}
-
-fn spread_in(exps: &mut [u8; 1792], slot: u8, strategy: u8, bin: u32, e: u8)
-    requires { (length exps.old ≡ 1792) × (slot < 7) × (bin + 4 ≤ 256) }
-    ensures { exps.new ≡ spread_of exps.old slot bin (size_of strategy) e }
-{
-    if strategy == 3 {
-        four(exps, slot, bin, e);
-        return;
-    }
-    if strategy == 2 {
-        two(exps, slot, bin, e);
-        return;
-    }
-    one(exps, slot, bin, e);
 }
 
 // A group whose bins the slot has.
-fn lay_in(exps: &mut [u8; 1792], slot: u8, strategy: u8, bin: u32, a: u8, b: u8, c: u8)
-    requires { (length exps.old ≡ 1792) × (slot < 7) × (bin + 12 ≤ 256) }
-    ensures { exps.new ≡ laid_of exps.old slot (size_of strategy) bin a b c }
+fn lay_in<const N: usize>(exps: &mut [u8; 1792], slot: u8, bin: u32, a: u8, b: u8, c: u8)
+    requires { (length exps.old ≡ 1792) × (slot < 7) × (bin + 3 * N ≤ 256) }
+    ensures { exps.new ≡ laid_of exps.old slot N bin a b c }
 {
-    let size = group_size(strategy);
-    spread_in(exps, slot, strategy, bin, a);
-    spread_in(exps, slot, strategy, bin + size, b);
-    spread_in(exps, slot, strategy, bin + 2 * size, c);
+    spread_in::<N>(exps, slot, bin, a);
+    spread_in::<N>(exps, slot, bin + N as u32, b);
+    spread_in::<N>(exps, slot, bin + 2 * N as u32, c);
 }
 
 // A group some of whose bins the slot may not have.
-fn lay_some(exps: &mut [u8; 1792], slot: u8, strategy: u8, bin: u32, a: u8, b: u8, c: u8)
-    requires { (length exps.old ≡ 1792) × (bin + 12 < 4294967296) }
-    ensures { exps.new ≡ laid_of exps.old slot (size_of strategy) bin a b c }
+fn lay_some(exps: &mut [u8; 1792], slot: u8, size: u32, bin: u32, a: u8, b: u8, c: u8)
+    requires { (length exps.old ≡ 1792) × (size ≤ 4) × (bin + 12 < 4294967296) }
+    ensures { exps.new ≡ laid_of exps.old slot size bin a b c }
 {
-    let size = group_size(strategy);
-    spread(exps, slot, strategy, bin, a);
-    spread(exps, slot, strategy, bin + size, b);
-    spread(exps, slot, strategy, bin + 2 * size, c);
-}
-
-// Whether a slot has the bins of every group from the bin `bin` on.
-fn inside(slot: u8, bin: u32) -> bool
-    ensures { (result ≡ true → slot < 7) × (result ≡ true → bin + 12 ≤ 256) }
-{
-    if bin <= 244 { slot < 7 } else { false }
+    spread(exps, slot, bin, size, a);
+    spread(exps, slot, bin + size, size, b);
+    spread(exps, slot, bin + 2 * size, size, c);
 }
 
 // The three exponents of a group, each for as many bins as the strategy has it, from the bin `bin` on.
+#[tactic(auto, using(std::proofs::lemmas::Bool::Decides::nat_tests), unfolding(crate::specs::Exponents::size_of))]
 pub fn lay(exps: &mut [u8; 1792], slot: u8, strategy: u8, bin: u32, a: u8, b: u8, c: u8)
     requires { (length exps.old ≡ 1792) × (bin + 12 < 4294967296) }
     ensures { exps.new ≡ laid_of exps.old slot (size_of strategy) bin a b c }
 {
-    if inside(slot, bin) {
-        lay_in(exps, slot, strategy, bin, a, b, c);
+    if 7 <= slot || 244 < bin {
+        lay_some(exps, slot, group_size(strategy), bin, a, b, c);
         return;
     }
-    lay_some(exps, slot, strategy, bin, a, b, c);
+    match strategy {
+        3 => lay_in::<4>(exps, slot, bin, a, b, c),
+        2 => lay_in::<2>(exps, slot, bin, a, b, c),
+        _ => lay_in::<1>(exps, slot, bin, a, b, c),
+    }
 }

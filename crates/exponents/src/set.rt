@@ -5,20 +5,20 @@ ghost use Rattle.syntax.specs.Records.{part};
 ghost use Rattle.exponents.specs.Set.{begun_of};
 ghost use Rattle.exponents.specs.SetRead.{Ready, SetRead};
 
-use crate::{Group, decode, first_of, group_size, groups, lay, put, start_of};
+use crate::{decode, first_of, group_size, groups, lay, put, start_of};
 use bits::{BitPlace, bits_at, past};
 use slots::CPL;
 use syntax::{Cursor, going, halted};
 
 // Bin 0 of a channel or of LFE has the absolute exponent itself.
+#[tactic(auto, using(std::proofs::lemmas::Bool::Decides::nat_tests), unfolding(crate::specs::Set::begun_of))]
 fn begin(exps: &mut [u8; 1792], slot: u8, absexp: u8)
     requires { length exps.old ≡ 1792 }
     ensures { exps.new ≡ begun_of slot absexp exps.old }
 {
-    if slot == CPL {
-        return;
+    if slot != CPL {
+        put(exps, slot, 0, absexp);
     }
-    put(exps, slot, 0, absexp);
 }
 
 // The groups of a set: each is read, recorded, decoded and laid. 8 where a group passes the limit, 33 where
@@ -50,13 +50,13 @@ pub fn read_exponents(
         result exps.new (room names.new blocks.new indexes.new firsts.new widths.new values.new) }
 {
     let step = 3 * group_size(strategy);
-    let mut left = groups(slot, strategy, start, end);
-    let mut bin = first_of(slot, start) as u32;
+    let left = groups(slot, strategy, start, end);
+    let mut bin = u32::from(first_of(slot, start));
     let mut prev = start_of(slot, absexp);
     let mut p = at;
     let mut n = count;
     begin(exps, slot, absexp);
-    while 0 < left {
+    for _ in 0..left {
         if past(p, 7, limit) {
             return halted(p, n, 8);
         }
@@ -72,18 +72,13 @@ pub fn read_exponents(
         values[n] = v;
         p = BitPlace(p.0 + 7);
         n += 1;
-        let g = decode(prev, v);
-        match g {
-            Group::Refused(number) => {
-                return halted(p, n, number);
-            }
-            Group::Moved(a, b, c) => {
-                lay(exps, slot, strategy, bin, a as u8, b as u8, c as u8);
-                prev = c;
-            }
-        }
+        let (a, b, c) = match decode(prev, v) {
+            Ok(group) => group,
+            Err(refusal) => return halted(p, n, refusal.number()),
+        };
+        lay(exps, slot, strategy, bin, a as u8, b as u8, c as u8);
+        prev = c;
         bin += step;
-        left -= 1;
     }
     going(p, n)
 }

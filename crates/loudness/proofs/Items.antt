@@ -8,10 +8,9 @@ use native.Mathlib.Omega.{arith}
 use lib.Dec.{eqb}
 use borrow.Author.Tests.{eqb-true, not-true}
 use Rattle.reading.specs.Tree.{Part, Tree, done, refuse, ahead}
-use Rattle.exponents.specs.Exponents.{decode_of}
+use Rattle.std.specs.Prelude.{Ok, Err}
+use Rattle.exponents.specs.Exponents.{Group, decode_of}
 use Rattle.exponents.specs.Set.{on_group, groups_from, set_of}
-use Rattle.exponents.specs.declared.Group.{Group}
-use Rattle.exponents.specs.declared.Group.TheVariants.{Refused, Moved}
 use Rattle.cells.specs.Cells.{State, Addr, Sum, cell_of, stored, place_of, sum_of}
 use Rattle.derivations.specs.Sets.{exponents_of}
 use Rattle.derivations.specs.Derivations.{derived}
@@ -52,8 +51,8 @@ module _ (N : ℕ → Bool) where
       (λ e. absurd (true≢false (sym e ∙ o)), λ grp. go (decode_of prev grp) _ (λ a b c. blind-groups q o slot size n _ c _))
     where
       go : (g : Group) (f : ℕ → ℕ → ℕ → Tree (List ℕ)) → ((a b c : ℕ) → Blind N (f a b c)) → Blind N (on_group g f)
-      go (Refused k) f h = tt
-      go (Moved a b c) f h = h a b c
+      go (Err k) f h = tt
+      go (Ok (a, b, c)) f h = h a b c
 
   blind-exponents : (q : Part) → N q.name ≡ false → (slot : ℕ) (st : State) → Blind N (exponents_of q slot st)
   unfolding exponents_of set_of

@@ -1,2 +1,1 @@
 pub mod Excitation
-pub mod Made

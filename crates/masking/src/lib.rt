@@ -3,25 +3,38 @@
 
 #![tactic(auto)]
 
-ghost use Rattle.std.specs.Prelude.{◌≡◌, ℕ, ◌+◌, ◌-◌, ◌<◌, ◌≤◌, max, length, get_or, replicate};
+ghost use Rattle.std.specs.Prelude.{◌≡◌, ℕ, ◌+◌, ◌-◌, ◌<◌, ◌≤◌, max, get_or, replicate};
 ghost use Rattle.tables.specs.BitAllocation.{hth as hthTab};
 ghost use Rattle.alloc.specs.Allocation.{lfe_last};
 ghost use Rattle.alloc.specs.Levels.{lowcomp_l, next_low_l, decay_from_l, begin_l, NextL, excite_l, hear_l, masked_l, mask_l};
-ghost use Rattle.alloc.specs.Premises.{Written, Levelled, Gained, Leaking, Decaying, Excites};
+ghost use Rattle.alloc.specs.Premises.{Written, Levelled, Gained, Leaking, Excites};
 
-use alloc::{Deltas, Gains, Leaks, Levels, Passed, less, sooner};
+use alloc::{Deltas, Gains, Leaks, Levels, Passed};
 use segments::shift;
 
-fn wide16(x: u16) -> u32
-    ensures { result ≡ x }
-{
-    x as u32
+// What the masks of a channel are made with, besides the powers of its bands.
+#[derive(Clone, Copy)]
+pub struct Curve {
+    pub gains: Gains,
+    pub leaks: Leaks,
+    pub levels: Levels,
+    pub deltas: Deltas,
+    pub ghost gained: { Gained gains },
+    pub ghost leaking: { Leaking leaks },
+    pub ghost levelled: { Levelled levels },
+    pub ghost segments: { deltas.n ≤ 8 },
 }
 
-fn larger(a: u32, b: u32) -> u32
-    ensures { result ≡ max a b }
-{
-    if a < b { b } else { a }
+// The powers of the bands, of which a channel has the bands first .. last - 1.
+#[derive(Clone, Copy)]
+pub struct Bands<'a> {
+    pub powers: &'a [u32; 50],
+    pub first: usize,
+    pub last: usize,
+    pub ghost ordered: { first ≤ last },
+    pub ghost within: { last ≤ 50 },
+    pub ghost most: { (k : ℕ) → get_or powers.now k 0 < 32768 },
+    pub ghost least: { (k : ℕ) → k < 50 → 8192 ≤ get_or powers.now k 0 },
 }
 
 // calc_lowcomp
@@ -33,12 +46,12 @@ fn calc_lowcomp(a: u32, b0: u32, b1: u32, bin: usize) -> u32
         if b0 + 256 == b1 {
             if bin < 7 { 384 } else { 320 }
         } else if b1 < b0 {
-            less(a, 64)
+            a.saturating_sub(64)
         } else {
             a
         }
     } else {
-        less(a, 128)
+        a.saturating_sub(128)
     }
 }
 
@@ -49,225 +62,166 @@ fn lfe_last(last: usize, b: usize) -> bool
     last == 7 && b == 6
 }
 
-// lowcomp at a band below 22, from lowcomp before it, where the range starts at band 0.
-fn next_low(bnd: &[u32; 50], last: usize, low: u32, b: usize) -> u32
-    requires { (b < 22) × ((k : ℕ) → get_or bnd.now k 0 < 32768) }
-    ensures { result ≡ next_low_l bnd.now 0 last low b }
-{
-    if lfe_last(last, b) {
-        return low;
-    }
-    let p = bnd[b];
-    let q = bnd[b + 1];
-    calc_lowcomp(low, p, q, b)
-}
-
 // A leak that decays, or starts anew from a power that is above it.
 fn decayed(leak: u32, decay: u32, p: u32, gain: u32) -> u32
     requires { (decay ≤ leak) × (gain ≤ p) }
     ensures { result ≡ max (leak - decay) (p - gain) }
 {
-    larger(leak - decay, p - gain)
+    (leak - decay).max(p - gain)
 }
 
-// The band from which the leaks decay, where the range starts at band 0.
-fn decay_from(bnd: &[u32; 50], last: usize) -> usize
-    ensures { (result ≡ decay_from_l bnd.now last 5 2) × (result ≤ 7) }
-{
-    let mut b = 2;
-    while b < 7 {
-        if lfe_last(last, b) {
-            return b + 1;
-        }
-        let p = bnd[b];
-        let q = bnd[b + 1];
-        if p <= q {
-            return b + 1;
-        }
-        b += 1;
-    }
-    b
-}
-
-// The leaks and lowcomp, one band on, before the leaks decay.
-fn pass_rising(bnd: &[u32; 50], g: Gains, s: Passed, last: usize, b: usize) -> Passed
-    requires { (b < 22) × ((k : ℕ) → get_or bnd.now k 0 < 32768) × ((k : ℕ) → k < 50 → 8192 ≤ get_or bnd.now k 0) × Gained g × Decaying s }
-    ensures { ((begin : ℕ) → b < begin → NextL bnd.now g s 0 last begin b result) × Decaying result }
-{
-    let p = bnd[b];
-    Passed {
-        fast: p - g.fgain,
-        slow: p - g.sgain,
-        low: next_low(bnd, last, s.low, b),
-    }
-}
-
-// The same where the leaks decay, below band 22.
-fn pass_low(bnd: &[u32; 50], g: Gains, s: Passed, last: usize, b: usize) -> Passed
-    requires { (b < 22) × ((k : ℕ) → get_or bnd.now k 0 < 32768) × ((k : ℕ) → k < 50 → 8192 ≤ get_or bnd.now k 0) × Gained g × Decaying s }
-    ensures { ((begin : ℕ) → begin ≤ b → NextL bnd.now g s 0 last begin b result) × Decaying result }
-{
-    let p = bnd[b];
-    Passed {
-        fast: decayed(s.fast, g.fdecay, p, g.fgain),
-        slow: decayed(s.slow, g.sdecay, p, g.sgain),
-        low: next_low(bnd, last, s.low, b),
-    }
-}
-
-// The same where there is no lowcomp: from band 22 on, or in a range that does not start at band 0.
-fn pass_high(bnd: &[u32; 50], g: Gains, s: Passed, b: usize) -> Passed
-    requires { (b < 50) × ((k : ℕ) → k < 50 → 8192 ≤ get_or bnd.now k 0) × Gained g × Decaying s }
-    ensures { ((first last begin : ℕ) → begin ≤ b → (first ≡ 0 → 22 ≤ b) → NextL bnd.now g s first last begin b result) × Decaying result }
-{
-    let p = bnd[b];
-    Passed {
-        fast: decayed(s.fast, g.fdecay, p, g.fgain),
-        slow: decayed(s.slow, g.sdecay, p, g.sgain),
-        low: 0,
-    }
-}
-
-// The excitation of the bands 0 .. to - 1, before the leaks decay.
-fn rise(bnd: &[u32; 50], out: &mut [u32; 50], g: Gains, s: Passed, last: usize, to: usize) -> Passed
-    requires to_bound { (to ≤ begin_l bnd.now 0 last) × (to ≤ 22) × ((k : ℕ) → get_or bnd.now k 0 < 32768) × (length out.old ≡ 50) }
-    requires by_index { ((k : ℕ) → k < 50 → 8192 ≤ get_or bnd.now k 0) × Gained g × Decaying s }
-    ensures { (Excites bnd.now g 0 last 0 to s result out.old out.new) × Decaying result }
-{
-    let mut t = s;
-    let mut b = 0;
-    while b < to {
-        t = pass_rising(bnd, g, t, last, b);
-        out[b] = t.fast - t.low;
-        b += 1;
-    }
-    t
-}
-
-// The excitation of the bands from .. to - 1, where the leaks decay, below band 22.
-fn middle(
-    bnd: &[u32; 50],
-    out: &mut [u32; 50],
-    g: Gains,
-    s: Passed,
-    last: usize,
-    from: usize,
-    to: usize,
-) -> Passed
-    requires from_le_to { (from ≤ to) × (from < to → begin_l bnd.now 0 last ≤ from) × (to ≤ 22) × ((k : ℕ) → get_or bnd.now k 0 < 32768) × (length out.old ≡ 50) }
-    requires by_index { ((k : ℕ) → k < 50 → 8192 ≤ get_or bnd.now k 0) × Gained g × Decaying s }
-    ensures { (Excites bnd.now g 0 last from to s result out.old out.new) × Decaying result }
-{
-    let mut t = s;
-    let mut b = from;
-    while b < to {
-        t = pass_low(bnd, g, t, last, b);
-        out[b] = larger(t.fast - t.low, t.slow);
-        b += 1;
-    }
-    t
-}
-
-// The excitation of the bands from .. last - 1, where there is no lowcomp.
-fn high(
-    bnd: &[u32; 50],
-    out: &mut [u32; 50],
-    g: Gains,
-    s: Passed,
-    first: usize,
-    last: usize,
-    from: usize,
-) -> Passed
-    requires from_le_last { (from ≤ last) × (last ≤ 50) × (from < last → begin_l bnd.now first last ≤ from) × (from < last → first ≡ 0 → 22 ≤ from) × (length out.old ≡ 50) }
-    requires by_index { ((k : ℕ) → k < 50 → 8192 ≤ get_or bnd.now k 0) × Gained g × Decaying s }
-    ensures { Excites bnd.now g first last from last s result out.old out.new }
-{
-    let mut t = s;
-    let mut b = from;
-    while b < last {
-        t = pass_high(bnd, g, t, b);
-        out[b] = larger(t.fast, t.slow);
-        b += 1;
-    }
-    t
-}
-
-// The excitation of the bands first .. last - 1.
-fn excite(bnd: &[u32; 50], out: &mut [u32; 50], g: Gains, l: Leaks, first: usize, last: usize)
-    requires first_le_last { (first ≤ last) × (last ≤ 50) × ((k : ℕ) → get_or bnd.now k 0 < 32768) × (length out.old ≡ 50) }
-    requires by_index { ((k : ℕ) → k < 50 → 8192 ≤ get_or bnd.now k 0) × Gained g × Leaking l }
-    ensures { Written (λ b. excite_l bnd.now g l first last (b - first)) first last out.old out.new }
-{
-    let s = Passed {
-        fast: l.fast,
-        slow: l.slow,
-        low: 0,
-    };
-    if first != 0 {
-        high(bnd, out, g, s, first, last, first);
-        return;
-    }
-    let begin = sooner(decay_from(bnd, last), last);
-    let mid = sooner(22, last);
-    let low = rise(bnd, out, g, s, last, begin);
-    let t = middle(bnd, out, g, low, last, begin, mid);
-    high(bnd, out, g, t, 0, last, mid);
-}
-
+// The threshold of hearing of a band.
 fn hearing_at(hth: &[u16; 150], fscod: usize, b: usize) -> u32
     requires { (hth.now ≡ hthTab) × (fscod < 3) × (b < 50) }
     ensures { (result ≡ hear_l fscod b) × (result < 16384) }
 {
-    let i = 50 * fscod + b;
-    8192 + wide16(hth[i])
+    8192 + u32::from(hth[50 * fscod + b])
 }
 
 // The mask of a band before the segments, from its excitation and its power.
-fn masked(hth: &[u16; 150], e: u32, p: u32, q: Levels, b: usize) -> u32
-    requires { (hth.now ≡ hthTab) × (b < 50) × (e < 32768) × Levelled q }
-    ensures { (result ≡ masked_l e p q b) × (result < 65536) }
+fn masked(hth: &[u16; 150], e: u32, p: u32, curve: &Curve, b: usize) -> u32
+    requires { (hth.now ≡ hthTab) × (b < 50) × (e < 32768) }
+    ensures { (result ≡ masked_l e p curve.now.levels b) × (result < 65536) }
 {
-    larger(e + less(q.knee, p) / 4, hearing_at(hth, q.fscod, b))
+    let q = curve.levels;
+    (e + q.knee.saturating_sub(p) / 4).max(hearing_at(hth, q.fscod, b))
 }
 
-// The masks of the bands first .. last - 1, in place of their excitation.
-fn mask_bands(
-    hth: &[u16; 150],
-    bnd: &[u32; 50],
-    out: &mut [u32; 50],
-    q: Levels,
-    first: usize,
-    last: usize,
-)
-    requires { (hth.now ≡ hthTab) × (first ≤ last) × (last ≤ 50) × Levelled q × ((k : ℕ) → get_or out.old k 0 < 32768) × (length out.old ≡ 50) }
-    ensures { Written (λ b. masked_l (get_or out.old b 0) (get_or bnd.now b 0) q b) first last out.old out.new × ((k : ℕ) → get_or out.new k 0 < 65536) }
-{
-    let mut b = first;
-    while b < last {
-        let e = out[b];
-        let p = bnd[b];
-        out[b] = masked(hth, e, p, q, b);
-        b += 1;
+impl<'a> Bands<'a> {
+    // lowcomp at a band below 22, from lowcomp before it, where the range starts at band 0.
+    fn next_low(&self, s: Passed, b: usize) -> u32
+        requires { b < 22 }
+        ensures { (result ≡ next_low_l self.now.powers.now 0 self.now.last s.low b) × (result ≤ 384) }
+    {
+        if lfe_last(self.last, b) {
+            return s.low;
+        }
+        calc_lowcomp(s.low, self.powers[b], self.powers[b + 1], b)
     }
-}
 
-// The masks of the bands first .. last - 1, from their powers. The other bands keep 0.
-pub fn masks(
-    hth: &[u16; 150],
-    bnd: &[u32; 50],
-    out: &mut [u32; 50],
-    g: Gains,
-    l: Leaks,
-    q: Levels,
-    d: Deltas,
-    first: usize,
-    last: usize,
-)
-    requires hth_value { (hth.now ≡ hthTab) × (first ≤ last) × (last ≤ 50) × ((k : ℕ) → get_or bnd.now k 0 < 32768) × ((k : ℕ) → k < 50 → 8192 ≤ get_or bnd.now k 0) }
-    requires leaking { (Leaking l) × (d.n ≤ 8) × Levelled q × (out.old ≡ replicate 50 0) × Gained g }
-    ensures { Written (mask_l g l q d bnd.now first last) first last out.old out.new × ((k : ℕ) → get_or out.new k 0 < 16777216) }
-{
-    excite(bnd, out, g, l, first, last);
-    mask_bands(hth, bnd, out, q, first, last);
-    shift(out, d, first, last);
+    // The band from which the leaks decay, where the range starts at band 0.
+    fn decay_from(&self) -> usize
+        ensures { (result ≡ decay_from_l self.now.powers.now self.now.last 5 2) × (result ≤ 7) }
+    {
+        for b in 2..7 {
+            if lfe_last(self.last, b) || self.powers[b] <= self.powers[b + 1] {
+                return b + 1;
+            }
+        }
+        7
+    }
+
+    // The leaks and lowcomp, one band on, before the leaks decay.
+    fn pass_rising(&self, curve: &Curve, s: Passed, b: usize) -> Passed
+        requires { b < 22 }
+        ensures { (begin : ℕ) → b < begin → NextL self.now.powers.now curve.now.gains s 0 self.now.last begin b result }
+    {
+        let p = self.powers[b];
+        Passed {
+            fast: p - curve.gains.fgain,
+            slow: p - curve.gains.sgain,
+            low: self.next_low(s, b),
+        }
+    }
+
+    // The same where the leaks decay, with lowcomp at the band.
+    fn pass_falling(&self, curve: &Curve, s: Passed, low: u32, b: usize) -> Passed
+        requires { (b < 50) × (low ≤ 384) }
+        ensures { (first last begin : ℕ) → begin ≤ b → low ≡ next_low_l self.now.powers.now first last s.low b
+            → NextL self.now.powers.now curve.now.gains s first last begin b result }
+    {
+        let p = self.powers[b];
+        let g = curve.gains;
+        Passed {
+            fast: decayed(s.fast, g.fdecay, p, g.fgain),
+            slow: decayed(s.slow, g.sdecay, p, g.sgain),
+            low,
+        }
+    }
+
+    // The excitation of the bands 0 .. to - 1, before the leaks decay.
+    fn rise(&self, out: &mut [u32; 50], curve: &Curve, mut s: Passed, to: usize) -> Passed
+        requires { (to ≤ begin_l self.now.powers.now 0 self.now.last) × (to ≤ 22) }
+        ensures { Excites self.now.powers.now curve.now.gains 0 self.now.last 0 to s result out.old out.new }
+    {
+        for b in 0..to {
+            s = self.pass_rising(curve, s, b);
+            out[b] = s.fast - s.low;
+        }
+        s
+    }
+
+    // The excitation of the bands from .. to - 1, where the leaks decay, below band 22.
+    fn middle(
+        &self,
+        out: &mut [u32; 50],
+        curve: &Curve,
+        mut s: Passed,
+        from: usize,
+        to: usize,
+    ) -> Passed
+        requires { (from ≤ to) × (from < to → begin_l self.now.powers.now 0 self.now.last ≤ from) × (to ≤ 22) }
+        ensures { Excites self.now.powers.now curve.now.gains 0 self.now.last from to s result out.old out.new }
+    {
+        for b in from..to {
+            s = self.pass_falling(curve, s, self.next_low(s, b), b);
+            out[b] = (s.fast - s.low).max(s.slow);
+        }
+        s
+    }
+
+    // The excitation of the bands from .. last - 1, where there is no lowcomp: from band 22 on, or in a range that does not
+    // start at band 0.
+    fn high(&self, out: &mut [u32; 50], curve: &Curve, mut s: Passed, from: usize) -> Passed
+        requires from_le_last { from ≤ self.now.last }
+        requires falling { from < self.now.last → begin_l self.now.powers.now self.now.first self.now.last ≤ from }
+        requires no_low { from < self.now.last → self.now.first ≡ 0 → 22 ≤ from }
+        ensures { Excites self.now.powers.now curve.now.gains self.now.first self.now.last from self.now.last s result out.old out.new }
+    {
+        for b in from..self.last {
+            s = self.pass_falling(curve, s, 0, b);
+            out[b] = s.fast.max(s.slow);
+        }
+        s
+    }
+
+    // The excitation of the range.
+    fn excite(&self, out: &mut [u32; 50], curve: &Curve)
+        ensures { Written (λ b. excite_l self.now.powers.now curve.now.gains curve.now.leaks self.now.first self.now.last (b - self.now.first)) self.now.first self.now.last out.old out.new }
+    {
+        let s = Passed {
+            fast: curve.leaks.fast,
+            slow: curve.leaks.slow,
+            low: 0,
+        };
+        if self.first != 0 {
+            self.high(out, curve, s, self.first);
+            return;
+        }
+        let begin = self.decay_from().min(self.last);
+        let mid = self.last.min(22);
+        let low = self.rise(out, curve, s, begin);
+        let t = self.middle(out, curve, low, begin, mid);
+        self.high(out, curve, t, mid);
+    }
+
+    // The masks of the range before the segments, in place of its excitation.
+    fn mask(&self, hth: &[u16; 150], out: &mut [u32; 50], curve: &Curve)
+        requires { (hth.now ≡ hthTab) × ((k : ℕ) → get_or out.old k 0 < 32768) }
+        ensures { Written (λ b. masked_l (get_or out.old b 0) (get_or self.now.powers.now b 0) curve.now.levels b) self.now.first self.now.last out.old out.new × ((k : ℕ) → get_or out.new k 0 < 65536) }
+    {
+        for b in self.first..self.last {
+            out[b] = masked(hth, out[b], self.powers[b], curve, b);
+        }
+    }
+
+    // The masks of the range, from its powers. The other bands keep 0.
+    pub fn masks(&self, hth: &[u16; 150], out: &mut [u32; 50], curve: &Curve)
+        requires { (hth.now ≡ hthTab) × (out.old ≡ replicate 50 0) }
+        ensures { Written (mask_l curve.now.gains curve.now.leaks curve.now.levels curve.now.deltas self.now.powers.now self.now.first self.now.last) self.now.first self.now.last out.old out.new × ((k : ℕ) → get_or out.new k 0 < 16777216) }
+    {
+        self.excite(out, curve);
+        self.mask(hth, out, curve);
+        shift(out, curve.deltas, self.first, self.last);
+    }
 }

@@ -14,10 +14,10 @@ use Rattle.reading.specs.Run.{Entry, region, Result, accepted, refused, Outcome,
 use Rattle.reading.proofs.Laws.{test, choice, skimmed}
 use Rattle.reading.proofs.Runs.{run_bind}
 use Rattle.slots.specs.Held.{bins}
-use Rattle.exponents.specs.Exponents.{decode_of}
+use Rattle.std.specs.Prelude.{Ok, Err}
+use Rattle.refusals.specs.Refusals.{number_of}
+use Rattle.exponents.specs.Exponents.{Group, decode_of}
 use Rattle.exponents.specs.Set.{on_group, groups_from, set_of}
-use Rattle.exponents.specs.declared.Group.{Group}
-use Rattle.exponents.specs.declared.Group.TheVariants.{Refused, Moved}
 use Rattle.cells.specs.Cells.{State, state, Addr, Sum, cell_of, stored, place_of, held_of, sum_of}
 use Rattle.derivations.specs.Derivations.{derived}
 use Rattle.derivations.specs.Sets.{exponents_of}
@@ -141,8 +141,8 @@ module _ (b : List ℕ) (l : ℕ) where
       few-read q 7 _ p 0 (λ grp. go (decode_of prev grp) _ (λ x y c. few-groups q slot size n _ c _ (p + 7)))
     where
       go : (g : Group) (f : ℕ → ℕ → ℕ → Tree (List ℕ)) → ((x y c : ℕ) → Few l (p + 7) 0 (run (f x y c) b (p + 7) l)) → Few l (p + 7) 0 (run (on_group g f) b (p + 7) l)
-      go (Refused k) f h = few-refuse k (p + 7) 0
-      go (Moved x y c) f h = h x y c
+      go (Err k) f h = few-refuse (number_of k) (p + 7) 0
+      go (Ok (x, y, c)) f h = h x y c
 
   few-exponents : (q : Part) (slot : ℕ) (st : State) (p : ℕ) → Few l p 0 (run (exponents_of q slot st) b p l)
   unfolding exponents_of set_of

@@ -16,12 +16,10 @@ use Rattle.reading.proofs.Runs.{run_bind}
 use Rattle.tables.specs.Small.{gaq_bits}
 use Rattle.slots.specs.Slots.{read_of}
 use Rattle.slots.specs.declared.Shape.{Shape}
-use Rattle.exponents.specs.Exponents.{next_of, on_to, decode_of}
+use Rattle.std.specs.Prelude.{Option, Some, None, Ok, Err}
+use Rattle.refusals.specs.Refusals.{number_of}
+use Rattle.exponents.specs.Exponents.{Group, next_of, on_to, decode_of}
 use Rattle.exponents.specs.Set.{on_group, groups_from, set_of}
-use Rattle.exponents.specs.declared.Group.{Group}
-use Rattle.exponents.specs.declared.Group.TheVariants.{Refused, Moved}
-use Rattle.exponents.specs.declared.Next.{Next}
-use Rattle.exponents.specs.declared.Next.TheVariants.{Outside, To}
 use Rattle.skim.specs.Counted.{counting}
 use Rattle.mantissas.specs.Mantissas.{conventional_of}
 use Rattle.mantissas.specs.declared.Groups.{Groups}
@@ -260,13 +258,13 @@ fails-mantissas st = fails-slots st.bins.baps _ 0 _ false _
 
 -- a set of exponents
 abbrev Group-numbered : Group → Type 0
-Group-numbered (Refused n) = among refusals n ≡ true
-Group-numbered (Moved a b c) = Unit {0}
+Group-numbered (Err r) = among refusals (number_of r) ≡ true
+Group-numbered (Ok g) = Unit {0}
 
-numbered_next : (x : Next) (k : ℕ → Group) → ((e : ℕ) → Group-numbered (k e)) → Group-numbered (on_to x k)
+numbered_next : (x : Option ℕ) (k : ℕ → Group) → ((e : ℕ) → Group-numbered (k e)) → Group-numbered (on_to x k)
 unfolding among refusals
-numbered_next Outside k h = refl
-numbered_next (To e) k h = h e
+numbered_next None k h = refl
+numbered_next (Some e) k h = h e
 
 group-if : (c : Bool) (g h : Group) → Group-numbered g → Group-numbered h → Group-numbered (cond c g h)
 group-if true g h x y = x
@@ -283,8 +281,8 @@ numbered-decode prev grp =
     (numbered_next (next_of prev (grp / 25)) _ (λ a. numbered_next (next_of a (grp % 25 / 5)) _ (λ b. numbered_next (next_of b (grp % 25 % 5)) _ (λ c. tt))))
 
 refuses-group : {A : Type 0} (g : Group) (f : ℕ → ℕ → ℕ → Tree A) → Group-numbered g → ((a b c : ℕ) → Refuses (f a b c)) → Refuses (on_group g f)
-refuses-group (Refused n) f h k = h
-refuses-group (Moved a b c) f h k = k a b c
+refuses-group (Err r) f h k = h
+refuses-group (Ok (a, b, c)) f h k = k a b c
 
 refuses-groups : (q : Part) (slot size n bin prev : ℕ) (exps : List ℕ) → Refuses (groups_from q slot size n bin prev exps)
 unfolding groups_from

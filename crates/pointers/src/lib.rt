@@ -4,30 +4,21 @@
 #![tactic(auto)]
 
 ghost use Rattle.std.specs.Prelude.{◌≡◌, ℕ, ◌+◌, ◌-◌, ◌/◌, ◌%◌, ◌<◌, ◌≤◌, max, pos, negsuc, length, get_or, replicate, ◌≤ℤ◌};
-ghost use Rattle.tables.specs.BitAllocation.{bndend, masktab as maskTab, hth as hthTab};
 ghost use Rattle.tables.specs.Bands.{band_of, BinBand};
 ghost use Rattle.alloc.specs.Allocation.{fast_of, slow_of, allocation};
 ghost use Rattle.alloc.specs.Levels.{place_l, places_l, point_l, pointer_l, allocation_l, base_of, gains_of, leaks_of, level_of, levels_of};
-ghost use Rattle.alloc.specs.Premises.{Exponents, Powers, Lent, Written, Tuned, Channelled, Levelled, Gained, Leaking, Pointed};
+ghost use Rattle.alloc.specs.Premises.{Exponents, Written, Tuned, Channelled, Levelled, Leaking, Pointed};
 ghost use Rattle.alloc.specs.Shares.{shares_of};
 
-use alloc::{
-    Channel, Deltas, Gains, Leak, Leaks, Levels, Params, Pointers, end_of, index, later, less,
-    sooner, wide,
-};
-
-fn index32(x: u32) -> usize
-    ensures { result ≡ x }
-{
-    x as usize
-}
+use alloc::{Channel, Deltas, Gains, Leak, Leaks, Levels, Params, Pointers, Tables, end_of};
+use masking::{Bands, Curve};
 
 // The band of a bin.
-fn band_of(masktab: &[u8; 253], bin: usize) -> usize
-    requires { (masktab.now ≡ maskTab) × (bin < 253) }
+fn band_of(tables: &Tables, bin: usize) -> usize
+    requires { bin < 253 }
     ensures { BinBand bin result }
 {
-    index(masktab[bin])
+    usize::from(tables.masktab[bin])
 }
 
 // The place of a mask, with `down` taken away, in steps of 32 from `base` on.
@@ -35,42 +26,28 @@ fn place(mask: u32, down: u32, base: u32) -> u32
     requires { base ≤ 160 }
     ensures { (result ≡ (mask - down) / 32 % 256 + base) × (result ≤ 415) }
 {
-    less(mask, down) / 32 % 256 + base
+    mask.saturating_sub(down) / 32 % 256 + base
 }
 
-// The places of the bands first .. last - 1, in place of their masks.
-fn place_bands(out: &mut [u32; 50], q: Levels, first: usize, last: usize)
-    requires { (first ≤ last) × (last ≤ 50) × Levelled q × (length out.old ≡ 50) }
-    ensures { Written (λ b. place_l (get_or out.old b 0) q.snr q.floor) first last out.old out.new }
+// The places of the bands of a range, in place of their masks.
+fn place_bands(bands: &Bands, out: &mut [u32; 50], q: Levels)
+    requires { Levelled q }
+    ensures { Written (λ b. place_l (get_or out.old b 0) q.snr q.floor) bands.now.first bands.now.last out.old out.new }
 {
     let down = q.snr + q.floor - 960;
     let base = 160 - (11264 - q.floor) / 32;
-    let mut b = first;
-    while b < last {
-        let m = out[b];
-        out[b] = place(m, down, base);
-        b += 1;
+    for b in bands.first..bands.last {
+        out[b] = place(out[b], down, base);
     }
 }
 
-// The places of the bands first .. last - 1 among the pointers. The other bands keep 0.
-fn places(
-    hth: &[u16; 150],
-    bnd: &[u32; 50],
-    out: &mut [u32; 50],
-    g: Gains,
-    l: Leaks,
-    q: Levels,
-    d: Deltas,
-    first: usize,
-    last: usize,
-)
-    requires hth_value { (hth.now ≡ hthTab) × (first ≤ last) × (last ≤ 50) × ((k : ℕ) → get_or bnd.now k 0 < 32768) × ((k : ℕ) → k < 50 → 8192 ≤ get_or bnd.now k 0) }
-    requires leaking { (Leaking l) × (d.n ≤ 8) × Levelled q × (out.old ≡ replicate 50 0) × Gained g }
-    ensures { out.new ≡ places_l g l q d bnd.now first last }
+// The places of the bands of a range among the pointers. The other bands keep 0.
+fn places(tables: &Tables, bands: &Bands, out: &mut [u32; 50], curve: &Curve)
+    requires { out.old ≡ replicate 50 0 }
+    ensures { out.new ≡ places_l curve.now.gains curve.now.leaks curve.now.levels curve.now.deltas bands.now.powers.now bands.now.first bands.now.last }
 {
-    masking::masks(hth, bnd, out, g, l, q, d, first, last);
-    place_bands(out, q, first, last);
+    bands.masks(tables.hth, out, curve);
+    place_bands(bands, out, curve.levels);
 }
 
 // The pointer of a bin whose power is w steps below 3072, in a band with its place in the table.
@@ -78,138 +55,103 @@ fn pointer(points: &[u8; 1024], place: usize, w: u8) -> u8
     requires { (place ≤ 927) × (w ≤ 96) }
     ensures { result ≡ get_or points.now (place + w) 0 }
 {
-    let t = place + index(w);
-    points[t]
+    points[place + usize::from(w)]
 }
 
-// The pointers of the bins lo .. hi - 1 of a band with its place in the table, and the sum of their shares.
-fn point(
-    points: &[u8; 1024],
-    shares: &[u64; 256],
-    powers: &[u8],
-    out: &mut [u8],
-    lo: usize,
-    hi: usize,
-    place: usize,
-) -> u64
-    requires lo_le_hi { (lo ≤ hi) × (hi ≤ 253) × (place ≤ 927) × Powers powers.now × (length out.old ≡ 256) }
-    requires by_index { (k : ℕ) → get_or shares.now k 0 ≤ 281474976710656 }
-    ensures { Pointed shares.now (point_l points.now powers.now place) lo hi out.old out.new result }
-{
-    let mut sum = 0u64;
-    let mut j = lo;
-    while j < hi {
-        let b = pointer(points, place, powers[j]);
-        out[j] = b;
-        sum += shares[index(b)];
-        j += 1;
-    }
-    sum
-}
-
-// The same of the bins from .. to - 1 below 28, each of which is a band.
-fn point_singles(
-    points: &[u8; 1024],
-    shares: &[u64; 256],
-    powers: &[u8],
-    place: &[u32; 50],
-    out: &mut [u8],
-    from: usize,
-    to: usize,
+// What the pointers of a channel are looked up by: the tables, where its table starts among the pointers, the powers of its bins
+// and the places of its bands.
+#[derive(Clone, Copy)]
+struct Lookup<'a> {
+    tables: &'a Tables<'a>,
     base: usize,
-) -> u64
-    requires from_le_to { (from ≤ to) × (to ≤ max from 28) × (base ≤ 512) × Powers powers.now × (length out.old ≡ 256) }
-    requires by_index { ((k : ℕ) → get_or place.now k 0 ≤ 415) × ((k : ℕ) → get_or shares.now k 0 ≤ 281474976710656) }
-    ensures { Pointed shares.now (pointer_l points.now base powers.now place.now) from to out.old out.new result }
-{
-    let mut sum = 0u64;
-    let mut j = from;
-    while j < to {
-        let b = pointer(points, base + index32(place[j]), powers[j]);
-        out[j] = b;
-        sum += shares[index(b)];
-        j += 1;
-    }
-    sum
+    powers: &'a [u8; 256],
+    places: &'a [u32; 50],
+    ghost base_most: { base ≤ 512 },
+    ghost power_most: { (j : ℕ) → get_or powers.now j 0 ≤ 96 },
+    ghost place_most: { (k : ℕ) → get_or places.now k 0 ≤ 415 },
 }
 
-// The same of the bins start .. end - 1, band by band from `first` on.
-fn point_bands(
-    points: &[u8; 1024],
-    shares: &[u64; 256],
-    ends: &[u8; 50],
-    powers: &[u8],
-    place: &[u32; 50],
-    out: &mut [u8],
-    start: usize,
-    end: usize,
-    base: usize,
-    first: usize,
-) -> u64
-    requires ends_value { (ends.now ≡ bndend) × (start ≤ end) × (end ≤ 253) × (base ≤ 512) × (start < end → first ≡ band_of start) }
-    requires powers { (Powers powers.now) × (length out.old ≡ 256) }
-    requires by_index { ((k : ℕ) → get_or place.now k 0 ≤ 415) × ((k : ℕ) → get_or shares.now k 0 ≤ 281474976710656) }
-    ensures { Pointed shares.now (pointer_l points.now base powers.now place.now) start end out.old out.new result }
-{
-    let mut sum = 0u64;
-    let mut j = start;
-    let mut k = first;
-    while j < end {
-        let hi = sooner(end, end_of(ends, k));
-        let p = base + index32(place[k]);
-        sum += point(points, shares, powers, out, j, hi, p);
-        j = hi;
-        k += 1;
+impl<'a> Lookup<'a> {
+    // The pointers of the bins lo .. hi - 1 of a band with its place in the table, and the sum of their shares.
+    fn point(&self, out: &mut [u8], lo: usize, hi: usize, place: usize) -> u64
+        requires { (lo ≤ hi) × (hi ≤ 256) × (place ≤ 927) × (length out.old ≡ 256) }
+        ensures { Pointed self.now.tables.now.shares.now (point_l self.now.tables.now.points.now self.now.powers.now place) lo hi out.old out.new result }
+    {
+        let points = self.tables.points;
+        let shares = self.tables.shares;
+        let powers = self.powers;
+        let mut sum = 0;
+        for j in lo..hi {
+            let b = pointer(points, place, powers[j]);
+            out[j] = b;
+            sum += shares[usize::from(b)];
+        }
+        sum
     }
-    sum
-}
 
-// The same of the bins start .. end - 1, of which the first is in the band `first`: those below 28, and the others.
-fn point_all(
-    points: &[u8; 1024],
-    shares: &[u64; 256],
-    ends: &[u8; 50],
-    powers: &[u8],
-    place: &[u32; 50],
-    out: &mut [u8],
-    start: usize,
-    end: usize,
-    base: usize,
-    first: usize,
-) -> u64
-    requires ends_value { (ends.now ≡ bndend) × (start ≤ end) × (end ≤ 253) × (base ≤ 512) × (first ≡ band_of start) }
-    requires powers { (Powers powers.now) × (length out.old ≡ 256) }
-    requires by_index { ((k : ℕ) → get_or place.now k 0 ≤ 415) × ((k : ℕ) → get_or shares.now k 0 ≤ 281474976710656) }
-    ensures { Pointed shares.now (pointer_l points.now base powers.now place.now) start end out.old out.new result }
-{
-    let single = sooner(end, 28);
-    let mid = later(start, single);
-    let a = point_singles(points, shares, powers, place, out, start, mid, base);
-    let b = point_bands(
-        points,
-        shares,
-        ends,
-        powers,
-        place,
-        out,
-        mid,
-        end,
-        base,
-        later(first, single),
-    );
-    a + b
+    // The same of the bins from .. to - 1 below 28, each of which is a band.
+    fn point_singles(&self, out: &mut [u8], from: usize, to: usize) -> u64
+        requires { (from ≤ to) × (to ≤ max from 28) × (length out.old ≡ 256) }
+        ensures { Pointed self.now.tables.now.shares.now (pointer_l self.now.tables.now.points.now self.now.base self.now.powers.now self.now.places.now) from to out.old out.new result }
+    {
+        let points = self.tables.points;
+        let shares = self.tables.shares;
+        let powers = self.powers;
+        let places = self.places;
+        let base = self.base;
+        let mut sum = 0;
+        for j in from..to {
+            let b = pointer(points, base + places[j] as usize, powers[j]);
+            out[j] = b;
+            sum += shares[usize::from(b)];
+        }
+        sum
+    }
+
+    // The same of the bins start .. end - 1, which are in the bands first .. last - 1.
+    fn point_bands(
+        &self,
+        out: &mut [u8],
+        start: usize,
+        end: usize,
+        first: usize,
+        last: usize,
+    ) -> u64
+        requires within { (start ≤ end) × (end ≤ 253) × (length out.old ≡ 256) }
+        requires some { start < end → (first ≡ band_of start) × (last ≡ band_of (end - 1) + 1) }
+        requires none { end ≤ start → last ≤ first }
+        ensures { Pointed self.now.tables.now.shares.now (pointer_l self.now.tables.now.points.now self.now.base self.now.powers.now self.now.places.now) start end out.old out.new result }
+    {
+        let mut sum = 0;
+        let mut j = start;
+        for k in first..last {
+            let hi = end.min(end_of(self.tables.ends, k));
+            sum += self.point(out, j, hi, self.base + self.places[k] as usize);
+            j = hi;
+        }
+        sum
+    }
+
+    // The same of the bins start .. end - 1, which are in the bands first .. last - 1: those below 28, and the others.
+    fn point_all(&self, out: &mut [u8], start: usize, end: usize, first: usize, last: usize) -> u64
+        requires within { (start < end) × (end ≤ 253) × (length out.old ≡ 256) }
+        requires bands { (first ≡ band_of start) × (last ≡ band_of (end - 1) + 1) }
+        ensures { Pointed self.now.tables.now.shares.now (pointer_l self.now.tables.now.points.now self.now.base self.now.powers.now self.now.places.now) start end out.old out.new result }
+    {
+        let single = end.min(28);
+        let mid = start.max(single);
+        let low = self.point_singles(out, start, mid);
+        let high = self.point_bands(out, mid, end, first.max(single), last);
+        low + high
+    }
 }
 
 // Zeros at from .. to - 1.
 fn clear(out: &mut [u8], from: usize, to: usize)
-    requires { (from ≤ to) × (to ≤ 256) × (length out.old ≡ 256) }
+    requires { (from ≤ to) × (to ≤ length out.old) }
     ensures { Written (λ k. 0) from to out.old out.new }
 {
-    let mut j = from;
-    while j < to {
-        out[j] = 0;
-        j += 1;
-    }
+    out[from..to].fill(0);
 }
 
 // The pointers of an empty range: 256 zeros.
@@ -217,46 +159,54 @@ pub fn no_bins(out: &mut [u8])
     requires { length out.old ≡ 256 }
     ensures { out.new ≡ replicate 256 0 }
 {
-    clear(out, 0, 256);
+    out.fill(0);
 }
 
 // The pointers of a range that is not empty, on levels.
 fn allocate_some(
-    latab: &[u8; 256],
-    masktab: &[u8; 253],
-    ends: &[u8; 50],
-    hth: &[u16; 150],
-    points: &[u8; 1024],
-    shares: &[u64; 256],
+    tables: &Tables,
     exps: &[u8],
     out: &mut [u8],
     start: usize,
     end: usize,
-    g: Gains,
-    l: Leaks,
-    q: Levels,
-    d: Deltas,
+    curve: &Curve,
     base: usize,
 ) -> u64
-    requires lent { Lent latab.now masktab.now ends.now hth.now points.now }
     requires start_lt_end { (start < end) × (end ≤ 253) × Exponents exps.now start end × (length out.old ≡ 256) }
-    requires leaking { (Leaking l) × (d.n ≤ 8) × Levelled q × (base ≤ 512) × Gained g }
-    requires by_index { (k : ℕ) → get_or shares.now k 0 ≤ 281474976710656 }
-    ensures out_after { out.new ≡ allocation_l points.now base exps.now start end g l q d }
-    ensures value { result ≡ shares_of shares.now (allocation_l points.now base exps.now start end g l q d) start (end - start) }
+    requires base_bound { base ≤ 512 }
+    ensures out_after { out.new ≡ allocation_l tables.now.points.now base exps.now start end curve.now.gains curve.now.leaks curve.now.levels curve.now.deltas }
+    ensures value { result ≡ shares_of tables.now.shares.now (allocation_l tables.now.points.now base exps.now start end curve.now.gains curve.now.leaks curve.now.levels curve.now.deltas) start (end - start) }
 {
-    let first = band_of(masktab, start);
-    let last = band_of(masktab, end - 1) + 1;
-    let mut bnd = [8192u32; 50];
+    let first = band_of(tables, start);
+    let last = band_of(tables, end - 1) + 1;
+    let mut sums = [8192u32; 50];
     let mut powers = [0u8; 256];
-    band_sums::bands(latab, ends, exps, &mut powers, &mut bnd, start, end, first);
-    let mut place = [0u32; 50];
-    places(hth, &bnd, &mut place, g, l, q, d, first, last);
+    band_sums::bands(
+        tables.latab,
+        tables.ends,
+        exps,
+        &mut powers,
+        &mut sums,
+        start,
+        end,
+        first,
+    );
+    let bands = Bands {
+        powers: &sums,
+        first,
+        last,
+    };
+    let mut of_bands = [0u32; 50];
+    places(tables, &bands, &mut of_bands, curve);
     clear(out, 0, start);
     clear(out, end, 256);
-    point_all(
-        points, shares, ends, &powers, &place, out, start, end, base, first,
-    )
+    let lookup = Lookup {
+        tables,
+        base,
+        powers: &powers,
+        places: &of_bands,
+    };
+    lookup.point_all(out, start, end, first, last)
 }
 
 // A floor as a level.
@@ -267,17 +217,6 @@ fn level(x: i32) -> u32
     (x + 8192) as u32
 }
 
-fn gains_of(fgain: u32, p: Params) -> Gains
-    ensures { result ≡ gains_of fgain p }
-{
-    Gains {
-        fgain: fgain,
-        sgain: p.sgain,
-        fdecay: p.fdecay,
-        sdecay: p.sdecay,
-    }
-}
-
 fn levels_of(p: Params, csnroffst: u8, fsnroffst: u8) -> Levels
     requires { Tuned p }
     ensures { (result ≡ levels_of p csnroffst fsnroffst) × Levelled result }
@@ -286,24 +225,46 @@ fn levels_of(p: Params, csnroffst: u8, fsnroffst: u8) -> Levels
     Levels {
         knee: 8192 + p.dbknee,
         floor: level(f),
-        snr: 64 * wide(csnroffst) + 4 * wide(fsnroffst),
+        snr: 64 * u32::from(csnroffst) + 4 * u32::from(fsnroffst),
         fscod: p.fscod,
     }
 }
 
-fn leaks_of(l: Leak) -> Leaks
+fn leaks_of(l: Option<Leak>) -> Leaks
     requires { (fast_of l ≤ 2560) × (slow_of l ≤ 2560) }
     ensures { (result ≡ leaks_of l) × Leaking result }
 {
     match l {
-        Leak::Absent => Leaks {
+        None => Leaks {
             fast: 8192,
             slow: 8192,
         },
-        Leak::Pair(fast, slow) => Leaks {
-            fast: 8192 + fast,
-            slow: 8192 + slow,
+        Some(leak) => Leaks {
+            fast: 8192 + leak.fast,
+            slow: 8192 + leak.slow,
         },
+    }
+}
+
+// What the masks of a channel are made with.
+fn curve_of(c: Channel, p: Params, l: Option<Leak>, d: Deltas) -> Curve
+    requires { (Channelled c l d) × Tuned p }
+    ensures gains { result.gains ≡ gains_of c.fgain p }
+    ensures leaks { result.leaks ≡ leaks_of l }
+    ensures levels { result.levels ≡ levels_of p c.csnroffst c.fsnroffst }
+    ensures deltas { result.deltas ≡ d }
+{
+    let gains = Gains {
+        fgain: c.fgain,
+        sgain: p.sgain,
+        fdecay: p.fdecay,
+        sdecay: p.sdecay,
+    };
+    Curve {
+        gains,
+        leaks: leaks_of(l),
+        levels: levels_of(p, c.csnroffst, c.fsnroffst),
+        deltas: d,
     }
 }
 
@@ -319,38 +280,24 @@ fn base_of(kind: Pointers) -> usize
 // The 256 pointers of a channel, into `out`: those of the bins start .. end - 1, and 0 elsewhere. Gives the sum of the shares
 // of these bins' pointers.
 pub fn allocate(
-    latab: &[u8; 256],
-    masktab: &[u8; 253],
-    ends: &[u8; 50],
-    hth: &[u16; 150],
-    points: &[u8; 1024],
-    shares: &[u64; 256],
+    tables: &Tables,
     exps: &[u8],
     out: &mut [u8],
     c: Channel,
     p: Params,
-    l: Leak,
+    l: Option<Leak>,
     d: Deltas,
     kind: Pointers,
 ) -> u64
-    requires lent { Lent latab.now masktab.now ends.now hth.now points.now }
     requires exponents { (Exponents exps.now c.start c.end) × (length out.old ≡ 256) }
     requires channelled { (Channelled c l d) × Tuned p }
-    requires by_index { (k : ℕ) → get_or shares.now k 0 ≤ 281474976710656 }
     ensures out_after { out.new ≡ allocation kind exps.now c p l d }
-    ensures value { result ≡ shares_of shares.now (allocation kind exps.now c p l d) c.start (c.end - c.start) }
+    ensures value { result ≡ shares_of tables.now.shares.now (allocation kind exps.now c p l d) c.start (c.end - c.start) }
 {
-    let start = c.start;
-    let end = c.end;
-    if end <= start {
+    if c.end <= c.start {
         no_bins(out);
         return 0;
     }
-    let g = gains_of(c.fgain, p);
-    let q = levels_of(p, c.csnroffst, c.fsnroffst);
-    let s = leaks_of(l);
-    let base = base_of(kind);
-    allocate_some(
-        latab, masktab, ends, hth, points, shares, exps, out, start, end, g, s, q, d, base,
-    )
+    let curve = curve_of(c, p, l, d);
+    allocate_some(tables, exps, out, c.start, c.end, &curve, base_of(kind))
 }

@@ -5,16 +5,16 @@ ghost use Rattle.std.specs.Prelude.{◌≡◌, ℕ, ◌+◌, ◌<◌, ◌≤◌,
 ghost use Rattle.alloc.specs.Levels.{delta_l, deltaed_l};
 ghost use Rattle.alloc.specs.Premises.{Written};
 
-use alloc::{Deltas, index, later, less, sooner, wide};
+use alloc::Deltas;
 
 // A mask moved by a segment's step.
 fn moved(m: u32, ba: u8) -> u32
     requires { m < 16777216 }
     ensures { (result ≡ delta_l m ba) × (result ≤ m + 32768) }
 {
-    let b = wide(ba);
+    let b = u32::from(ba);
     if b < 4 {
-        less(m, (4 - b) * 128)
+        m.saturating_sub((4 - b) * 128)
     } else {
         m + (b - 3) * 128
     }
@@ -22,29 +22,23 @@ fn moved(m: u32, ba: u8) -> u32
 
 // The masks of the bands from .. to - 1, moved by a segment's step.
 fn move_bands(out: &mut [u32; 50], ba: u8, from: usize, to: usize)
-    requires { (to ≤ 50) × ((k : ℕ) → get_or out.old k 0 < 16777216) × (length out.old ≡ 50) }
+    requires { (to ≤ 50) × ((k : ℕ) → get_or out.old k 0 < 16777216) }
     ensures { Written (λ b. delta_l (get_or out.old b 0) ba) from to out.old out.new × ((k : ℕ) → get_or out.new k 0 ≤ get_or out.old k 0 + 32768) }
 {
-    let mut b = from;
-    while b < to {
-        let m = out[b];
-        out[b] = moved(m, ba);
-        b += 1;
+    for b in from..to {
+        out[b] = moved(out[b], ba);
     }
 }
 
 // The masks of the bands first .. last - 1 after all segments. The counter `band` runs on from one segment to the next.
 pub fn shift(out: &mut [u32; 50], d: Deltas, first: usize, last: usize)
-    requires { (last ≤ 50) × (d.n ≤ 8) × ((k : ℕ) → get_or out.old k 0 < 65536) × (length out.old ≡ 50) }
+    requires { (last ≤ 50) × (d.n ≤ 8) × ((k : ℕ) → get_or out.old k 0 < 65536) }
     ensures { Written (λ b. deltaed_l d b (get_or out.old b 0) d.n) first last out.old out.new × ((k : ℕ) → get_or out.new k 0 < 16777216) }
 {
-    let n = d.n;
-    let mut band = 0usize;
-    let mut i = 0usize;
-    while i < n {
-        let from = band + index(d.offset[i]);
-        band = from + index(d.len[i]);
-        move_bands(out, d.ba[i], later(first, from), sooner(last, band));
-        i += 1;
+    let mut band = 0;
+    for i in 0..d.n {
+        let from = band + usize::from(d.offset[i]);
+        band = from + usize::from(d.len[i]);
+        move_bands(out, d.ba[i], first.max(from), last.min(band));
     }
 }

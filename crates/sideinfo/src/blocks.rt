@@ -1,15 +1,16 @@
 // What is derived in a block.
-ghost use Rattle.std.specs.Prelude.{◌≡◌, Bool, cond, ◌+◌, ◌-◌, ◌*◌, ◌≤◌, ◌<◌, min, eqb, ltb};
-ghost use Rattle.sideinfo.specs.Steps.{each_of};
-ghost use Rattle.sideinfo.specs.Blocks.{spx_range_by, bands_of, nspxbnds_by, cpl_range_by, ncplbnd_by, nrematbd_by, cpl_bins_by, coupled_in, extended_in, endmant_of, unknown_of, unknown_here, endmants_of, endmants_by, read_of, slot_bits_of, aht_read_by};
+ghost use Rattle.std.specs.Prelude.{◌≡◌, Err, Ok, Bool, cond, ◌+◌, ◌-◌, ◌*◌, ◌≤◌, ◌<◌, eqb, ltb};
+ghost use Rattle.refusals.specs.declared.Refusal.TheVariants.{BandwidthNeverSent};
+ghost use Rattle.sideinfo.specs.Blocks.{spx_range_by, bands_of, nspxbnds_by, cpl_range_by, ncplbnd_by, nrematbd_by, cpl_bins_by, coupled_in, extended_in, endmant_of, unknown_of, unknown_here, channels_of, endmants_by, read_of, slot_bits_of, aht_read_by};
 
-use crate::flags::{both, count, flag, mark};
+use crate::flags::{count, flag, mark};
 use cells::numbers::{
     AHT_READ, AHT_TAGS, AHTINU, BLK, CHBWCOD, CHBWSENT, CHINCPL, CHINSPX, CPL_SUBND_END, CPLBEGF,
     CPLBNDSTRC, CPLEND, CPLENDF, CPLINU, CPLSTRT, ENDMANT, LFEON, NCPLBND, NFCHANS, NREMATBD,
     NSPXBNDS, SLOT_BITS, SPX_BEGIN, SPX_END, SPXBEGF, SPXBNDSTRC, SPXENDF, SPXINU, TAGS,
 };
 use cells::{cell_of, put};
+use refusals::Refusal;
 
 fn spx_begin(spxbegf: u16) -> u32
     ensures { result ≡ cond (ltb spxbegf 6) (spxbegf + 2) (2 * spxbegf - 3) }
@@ -41,18 +42,17 @@ pub fn spx_range(cells: &mut [u16; 1024])
     put(cells, SPX_END, end);
 }
 
-fn less(a: u16, b: u16) -> u16
-    ensures { result ≡ a - (b + 1) }
-{
-    if b < a { a - b - 1 } else { 0 }
-}
-
 // The bands of the sub-bands from b up to e, whose structure lies from the cell k on.
 fn bands(cells: &[u16; 1024], k: usize, b: u16, e: u16) -> u32
     requires { k ≤ 1024 }
     ensures { result ≡ bands_of cells.now k b e }
 {
-    1 + count(cells, k + b as usize + 1, 0, less(e, b))
+    1 + count(
+        cells,
+        k + b as usize + 1,
+        0,
+        e.saturating_sub(b).saturating_sub(1),
+    )
 }
 
 pub fn nspxbnds(cells: &mut [u16; 1024])
@@ -67,14 +67,13 @@ pub fn nspxbnds(cells: &mut [u16; 1024])
 fn cpl_end(extended: bool, spxbegf: u16, cplendf: u16) -> u32
     ensures { result ≡ cond extended (cond (ltb spxbegf 6) (spxbegf + 1) (2 * spxbegf - 4)) (cplendf + 3) }
 {
-    if extended {
-        return if spxbegf < 6 {
-            spxbegf as u32 + 1
-        } else {
-            2 * spxbegf as u32 - 4
-        };
+    if !extended {
+        cplendf as u32 + 3
+    } else if spxbegf < 6 {
+        spxbegf as u32 + 1
+    } else {
+        2 * spxbegf as u32 - 4
     }
-    cplendf as u32 + 3
 }
 
 // The first sub-band past the coupling range.
@@ -96,28 +95,14 @@ pub fn ncplbnd(cells: &mut [u16; 1024])
     put(cells, NCPLBND, n);
 }
 
-fn cpl_remat(cplbegf: u16) -> u32
-    ensures { result ≡ cond (eqb cplbegf 0) 2 (cond (ltb cplbegf 3) 3 4) }
-{
-    if cplbegf == 0 {
-        return 2;
-    }
-    if cplbegf < 3 { 3 } else { 4 }
-}
-
-fn three_or_four(three: bool) -> u32
-    ensures { result ≡ cond three 3 4 }
-{
-    if three { 3 } else { 4 }
-}
-
 fn remat(coupled: bool, cplbegf: u16, three: bool) -> u32
     ensures { result ≡ cond coupled (cond (eqb cplbegf 0) 2 (cond (ltb cplbegf 3) 3 4)) (cond three 3 4) }
 {
-    if coupled {
-        cpl_remat(cplbegf)
-    } else {
-        three_or_four(three)
+    match cplbegf {
+        _ if !coupled => if three { 3 } else { 4 },
+        0 => 2,
+        1 | 2 => 3,
+        _ => 4,
     }
 }
 
@@ -127,7 +112,7 @@ pub fn nrematbd(cells: &mut [u16; 1024])
 {
     let coupled = flag(cells, CPLINU);
     let cplbegf = cell_of(cells, CPLBEGF);
-    let three = both(flag(cells, SPXINU), cell_of(cells, SPXBEGF) < 2);
+    let three = flag(cells, SPXINU) && cell_of(cells, SPXBEGF) < 2;
     put(cells, NREMATBD, remat(coupled, cplbegf, three));
 }
 
@@ -135,14 +120,14 @@ fn coupled(cells: &[u16; 1024], ch: usize) -> bool
     requires { ch ≤ 1024 }
     ensures { result ≡ coupled_in cells.now ch }
 {
-    both(flag(cells, CPLINU), flag(cells, CHINCPL + ch))
+    flag(cells, CPLINU) && flag(cells, CHINCPL + ch)
 }
 
 fn extended(cells: &[u16; 1024], ch: usize) -> bool
     requires { ch ≤ 1024 }
     ensures { result ≡ extended_in cells.now ch }
 {
-    both(flag(cells, SPXINU), flag(cells, CHINSPX + ch))
+    flag(cells, SPXINU) && flag(cells, CHINSPX + ch)
 }
 
 // Where the mantissas of a channel end.
@@ -151,12 +136,12 @@ fn endmant(cells: &[u16; 1024], ch: usize) -> u32
     ensures { result ≡ endmant_of cells.now ch }
 {
     if coupled(cells, ch) {
-        return cell_of(cells, CPLSTRT) as u32;
+        cell_of(cells, CPLSTRT) as u32
+    } else if extended(cells, ch) {
+        25 + 12 * cell_of(cells, SPX_BEGIN) as u32
+    } else {
+        37 + 3 * (cell_of(cells, CHBWCOD + ch) as u32 + 12)
     }
-    if extended(cells, ch) {
-        return 25 + 12 * cell_of(cells, SPX_BEGIN) as u32;
-    }
-    37 + 3 * (cell_of(cells, CHBWCOD + ch) as u32 + 12)
 }
 
 // The bandwidth of a channel that is neither coupled nor extended was never sent.
@@ -164,34 +149,21 @@ fn unknown(cells: &[u16; 1024], ch: usize) -> bool
     requires { ch ≤ 1024 }
     ensures { result ≡ unknown_of cells.now ch }
 {
-    if coupled(cells, ch) {
-        return false;
-    }
-    if extended(cells, ch) {
-        return false;
-    }
-    cell_of(cells, CHBWSENT + ch) == 0
+    !coupled(cells, ch) && !extended(cells, ch) && cell_of(cells, CHBWSENT + ch) == 0
 }
 
-fn five(n: u16) -> usize
-    ensures { (result ≡ min n 5) × (result ≤ 5) }
+// The number of the channels of the block.
+fn channels(cells: &[u16; 1024]) -> usize
+    ensures { (result ≡ channels_of cells.now) × (result ≤ 5) }
 {
-    if n < 5 { n as usize } else { 5 }
+    usize::from(cell_of(cells, NFCHANS).min(5))
 }
 
 // One of the channels is such.
 fn unknown_in(cells: &[u16; 1024]) -> bool
     ensures { result ≡ unknown_here cells.now }
 {
-    let n = five(cell_of(cells, NFCHANS));
-    let mut ch: usize = 0;
-    while ch < n {
-        if unknown(cells, ch) {
-            return true;
-        }
-        ch += 1;
-    }
-    false
+    (0..channels(cells)).any(|ch| unknown(cells, ch))
 }
 
 fn bin(sub: u16) -> u32
@@ -209,36 +181,27 @@ fn cpl_bins(cells: &mut [u16; 1024])
     put(cells, CPLEND, end);
 }
 
-fn ends(cells: &mut [u16; 1024], n: usize)
-    requires { n ≤ 5 }
-    ensures { cells.new ≡ endmants_of n cells.old }
-{
-    let mut ch: usize = 0;
-    while ch < n {
-        let end = endmant(cells, ch);
-        put(cells, ENDMANT + ch, end);
-        ch += 1;
-    }
-}
-
 // The ends of the mantissas of coupling and of the channels.
 fn endmants(cells: &mut [u16; 1024])
     ensures { cells.new ≡ endmants_by cells.old }
 {
-    let n = five(cell_of(cells, NFCHANS));
+    let n = channels(cells);
     cpl_bins(cells);
-    ends(cells, n);
+    for ch in 0..n {
+        let end = endmant(cells, ch);
+        put(cells, ENDMANT + ch, end);
+    }
 }
 
-// The same, or 23, where the bandwidth of a channel was never sent.
-pub fn endmants_in(cells: &mut [u16; 1024]) -> u8
-    ensures { (result ≡ cond (unknown_here cells.old) 23 0) × (cells.new ≡ cond (unknown_here cells.old) cells.old (endmants_by cells.old)) }
+// The same, where the bandwidth of each channel is known.
+pub fn endmants_in(cells: &mut [u16; 1024]) -> Result<(), Refusal>
+    ensures { (result ≡ cond (unknown_here cells.old) (Err BandwidthNeverSent) (Ok tt)) × (cells.new ≡ cond (unknown_here cells.old) cells.old (endmants_by cells.old)) }
 {
     if unknown_in(cells) {
-        return 23;
+        return Err(Refusal::BandwidthNeverSent);
     }
     endmants(cells);
-    0
+    Ok(())
 }
 
 // The slot of a channel is read, and coupling with a channel that is coupled.
@@ -248,22 +211,11 @@ fn read_one(cells: &mut [u16; 1024], ch: usize)
 {
     let own = flag(cells, AHTINU + ch);
     mark(cells, AHT_READ + ch, own);
-    let with = both(coupled(cells, ch), flag(cells, AHTINU + 5));
+    let with = coupled(cells, ch) && flag(cells, AHTINU + 5);
     mark(cells, AHT_READ + 5, with);
 }
 
-fn read_all(cells: &mut [u16; 1024], n: usize)
-    requires { n ≤ 5 }
-    ensures { cells.new ≡ each_of read_of n cells.old }
-{
-    let mut ch: usize = 0;
-    while ch < n {
-        read_one(cells, ch);
-        ch += 1;
-    }
-}
-
-// The bits that a slot took, kept by block; those of all slots.
+// The bits that a slot took, kept by block.
 fn keep_bits(cells: &mut [u16; 1024], slot: usize)
     requires { slot < 7 }
     ensures { cells.new ≡ slot_bits_of slot cells.old }
@@ -273,26 +225,20 @@ fn keep_bits(cells: &mut [u16; 1024], slot: usize)
     put(cells, SLOT_BITS + 8 * block + slot, bits);
 }
 
-fn keep_all_bits(cells: &mut [u16; 1024])
-    ensures { cells.new ≡ each_of slot_bits_of 7 cells.old }
-{
-    let mut slot: usize = 0;
-    while slot < 7 {
-        keep_bits(cells, slot);
-        slot += 1;
-    }
-}
-
 // After the mantissas of a block: the tags so far, the bits of the slots, and the slots of the adaptive hybrid transform
 // that are read.
 pub fn aht_read(cells: &mut [u16; 1024])
     ensures { cells.new ≡ aht_read_by cells.old }
 {
-    let n = five(cell_of(cells, NFCHANS));
+    let n = channels(cells);
     let tags = cell_of(cells, AHT_TAGS) as u32 + cell_of(cells, TAGS) as u32;
     put(cells, AHT_TAGS, tags);
-    keep_all_bits(cells);
-    read_all(cells, n);
-    let lfe = both(flag(cells, LFEON), flag(cells, AHTINU + 6));
+    for slot in 0..7 {
+        keep_bits(cells, slot);
+    }
+    for ch in 0..n {
+        read_one(cells, ch);
+    }
+    let lfe = flag(cells, LFEON) && flag(cells, AHTINU + 6);
     mark(cells, AHT_READ + 6, lfe);
 }

@@ -1,9 +1,11 @@
 // Flags in cells, and how many cells hold a value.
-ghost use Rattle.std.specs.Prelude.{◌≡◌, cond, ◌&&◌, ◌≤◌, eqb};
+ghost use Rattle.std.specs.Prelude.{◌≡◌, ◌≤◌};
 ghost use Rattle.sideinfo.specs.Frames.{holding};
 ghost use Rattle.sideinfo.specs.Blocks.{flag_of, marked_in};
+ghost use Rattle.sideinfo.specs.Shapes.{flags_of};
 
 use cells::{cell_of, put};
+use std::array;
 
 pub fn flag(cells: &[u16; 1024], k: usize) -> bool
     ensures { result ≡ flag_of cells.now k }
@@ -11,16 +13,12 @@ pub fn flag(cells: &[u16; 1024], k: usize) -> bool
     cell_of(cells, k) == 1
 }
 
-pub fn both(a: bool, b: bool) -> bool
-    ensures { result ≡ (a && b) }
+// N flags, from the cell k on.
+pub fn flags<const N: usize>(cells: &[u16; 1024], k: usize) -> [bool; N]
+    requires { (k ≤ 1024) × (N ≤ 1024) }
+    ensures { result ≡ flags_of cells.now k N }
 {
-    if a { b } else { false }
-}
-
-fn hit(x: u16, v: u16) -> u32
-    ensures { (result ≡ cond (eqb x v) 1 0) × (result ≤ 1) }
-{
-    if x == v { 1 } else { 0 }
+    array::from_fn(|i| flag(cells, k + i))
 }
 
 // How many of n cells from the cell k on hold v.
@@ -28,14 +26,9 @@ pub fn count(cells: &[u16; 1024], k: usize, v: u16, n: u16) -> u32
     requires { k ≤ 131072 }
     ensures { (result ≡ holding cells.now k v n) × (result ≤ n) }
 {
-    let end = n as usize;
-    let mut sum: u32 = 0;
-    let mut i: usize = 0;
-    while i < end {
-        sum += hit(cell_of(cells, k + i), v);
-        i += 1;
-    }
-    sum
+    (0..usize::from(n))
+        .filter(|i| cell_of(cells, k + *i) == v)
+        .count() as u32
 }
 
 // Puts 1 into a cell, or leaves it.

@@ -1,6 +1,5 @@
 // What is derived from bsi and audfrm.
-ghost use Rattle.std.specs.Prelude.{◌≡◌, cond, ◌||◌, not, ◌+◌, ◌-◌, ◌^◌, ◌≤◌, ◌<◌, eqb, ltb, length, get_or};
-ghost use Rattle.tables.specs.Small.{nfchans as table};
+ghost use Rattle.std.specs.Prelude.{◌≡◌, cond, ◌||◌, not, ◌+◌, ◌-◌, ◌≤◌, ◌<◌, eqb, get_or};
 ghost use Rattle.sideinfo.specs.Frames.{numblks_by, nfchans_by, ncplblks_by, strategies_by, cpl_strategies_by, ch_strategies_by, cpl_regions, regions_from, nchregs_by, regions_by, powers_below, blkstrtinfo_by};
 
 use crate::flags::count;
@@ -24,22 +23,18 @@ pub fn numblks(cells: &mut [u16; 1024])
     put(cells, NUMBLKS, blocks_of(code));
 }
 
-fn channels_of(acmod: u16) -> u32
-    ensures { result ≡ get_or table acmod 0 }
+// An entry of a table, 0 past its end.
+fn entry(table: &[u8], k: usize) -> u32
+    ensures { result ≡ get_or table.now k 0 }
 {
-    let modes = tables::nfchans();
-    if acmod < 8 {
-        wide(modes[acmod as usize])
-    } else {
-        0
-    }
+    table.get(k).map_or(0, |v| u32::from(*v))
 }
 
 pub fn nfchans(cells: &mut [u16; 1024])
     ensures { cells.new ≡ nfchans_by cells.old }
 {
     let acmod = cell_of(cells, ACMOD);
-    put(cells, NFCHANS, channels_of(acmod));
+    put(cells, NFCHANS, entry(&tables::nfchans(), acmod as usize));
 }
 
 pub fn ncplblks(cells: &mut [u16; 1024])
@@ -50,19 +45,6 @@ pub fn ncplblks(cells: &mut [u16; 1024])
     put(cells, NCPLBLKS, blocks);
 }
 
-fn wide(x: u8) -> u32
-    ensures { result ≡ x }
-{
-    x as u32
-}
-
-fn entry(table: &[u8; 192], k: usize) -> u32
-    requires { length table.now ≡ 192 }
-    ensures { result ≡ get_or table.now k 0 }
-{
-    if k < 192 { wide(table[k]) } else { 0 }
-}
-
 // The strategies of six blocks by a code of the frame (Table E.1.9), into every d-th cell from k on.
 fn strategies(cells: &mut [u16; 1024], code: u16, k: usize, d: usize)
     requires { (k ≤ 131072) × (d ≤ 8) }
@@ -70,10 +52,8 @@ fn strategies(cells: &mut [u16; 1024], code: u16, k: usize, d: usize)
 {
     let table = frame_expstr();
     let first = 6 * code as usize;
-    let mut i: usize = 0;
-    while i < 6 {
+    for i in 0..6 {
         put(cells, k + d * i, entry(&table, first + i));
-        i += 1;
     }
 }
 
@@ -92,29 +72,13 @@ pub fn ch_strategies(cells: &mut [u16; 1024])
     strategies(cells, code, CHEXPSTR + ch, 8);
 }
 
-fn begins(strategy: u16) -> u32
-    ensures { (result ≡ cond (eqb strategy 0) 0 1) × (result ≤ 1) }
-{
-    if strategy == 0 { 0 } else { 1 }
-}
-
-fn cpl_begins(cplstre: u16, strategy: u16) -> u32
-    ensures { (result ≡ cond (eqb cplstre 1 || not (eqb strategy 0)) 1 0) × (result ≤ 1) }
-{
-    if cplstre == 1 { 1 } else { begins(strategy) }
-}
-
 // The regions of coupling in six blocks.
 fn cpl_regions(cells: &[u16; 1024]) -> u32
     ensures { result ≡ cpl_regions cells.now }
 {
-    let mut sum: u32 = 0;
-    let mut i: usize = 0;
-    while i < 6 {
-        sum += cpl_begins(cell_of(cells, CPLSTRE + i), cell_of(cells, CPLEXPSTR + i));
-        i += 1;
-    }
-    sum
+    (0..6)
+        .filter(|i| cell_of(cells, CPLSTRE + *i) == 1 || cell_of(cells, CPLEXPSTR + *i) != 0)
+        .count() as u32
 }
 
 // The regions of a channel, whose strategies lie in every d-th cell from k on.
@@ -122,67 +86,34 @@ fn regions_from(cells: &[u16; 1024], k: usize, d: usize) -> u32
     requires { (k ≤ 1024) × (d ≤ 8) }
     ensures { result ≡ regions_from cells.now k d }
 {
-    let mut sum: u32 = 0;
-    let mut i: usize = 0;
-    while i < 6 {
-        sum += begins(cell_of(cells, k + d * i));
-        i += 1;
-    }
-    sum
-}
-
-fn nchregs(cells: &mut [u16; 1024])
-    ensures { cells.new ≡ nchregs_by cells.old }
-{
-    let mut ch: usize = 0;
-    while ch < 5 {
-        let n = regions_from(cells, CHEXPSTR + ch, 8);
-        put(cells, NCHREGS + ch, n);
-        ch += 1;
-    }
+    (0..6).filter(|i| cell_of(cells, k + d * *i) != 0).count() as u32
 }
 
 pub fn regions(cells: &mut [u16; 1024])
     ensures { cells.new ≡ regions_by cells.old }
 {
-    nchregs(cells);
+    for ch in 0..5 {
+        let n = regions_from(cells, CHEXPSTR + ch, 8);
+        put(cells, NCHREGS + ch, n);
+    }
     let cpl = cpl_regions(cells);
     put(cells, NCPLREGS, cpl);
     let lfe = regions_from(cells, LFEEXPSTR, 1);
     put(cells, NLFEREGS, lfe);
 }
 
-fn above(n: u32, k: u32) -> u32
-    requires { k < 17 }
-    ensures { (result ≡ cond (ltb (2 ^ k) n) 1 0) × (result ≤ 1) }
-{
-    if (1 << k) < n { 1 } else { 0 }
-}
-
 // The ceiling of the logarithm of n to the base 2.
 fn ceil_log2(n: u32) -> u32
     ensures { (result ≡ powers_below n 17) × (result ≤ 17) }
 {
-    let mut b: u32 = 0;
-    let mut k: u32 = 0;
-    while k < 17 {
-        b += above(n, k);
-        k += 1;
-    }
-    b
-}
-
-fn one_less(n: u16) -> u32
-    ensures { (result ≡ n - 1) × (result < 65536) }
-{
-    if n == 0 { 0 } else { n as u32 - 1 }
+    (0..17_u32).filter(|k| (1 << *k) < n).count() as u32
 }
 
 // The width of blkstrtinfo.
 pub fn blkstrtinfo(cells: &mut [u16; 1024])
     ensures { cells.new ≡ blkstrtinfo_by cells.old }
 {
-    let blocks = one_less(cell_of(cells, NUMBLKS));
+    let blocks = cell_of(cells, NUMBLKS).saturating_sub(1) as u32;
     let words = cell_of(cells, FRMSIZ) as u32 + 1;
     put(cells, WIDTH, blocks * (4 + ceil_log2(words)));
 }

@@ -10,10 +10,9 @@ use Rattle.reading.specs.Run.{Entry, skim, run}
 use Rattle.reading.specs.Records.{All}
 use Rattle.reading.specs.Frame.{TailNames, ending, tail}
 use Rattle.reading.proofs.Laws.{test, skimmed, after-skim}
-use Rattle.exponents.specs.Exponents.{decode_of}
+use Rattle.std.specs.Prelude.{Ok, Err}
+use Rattle.exponents.specs.Exponents.{Group, decode_of}
 use Rattle.exponents.specs.Set.{on_group, groups_from, set_of}
-use Rattle.exponents.specs.declared.Group.{Group}
-use Rattle.exponents.specs.declared.Group.TheVariants.{Refused, Moved}
 use Rattle.cells.specs.Cells.{State, cell_of, stored, sum_of}
 use Rattle.derivations.specs.Sets.{exponents_of}
 use Rattle.derivations.specs.Derivations.{derived}
@@ -77,8 +76,8 @@ module _ (P : ℕ → ℕ → ℕ → Type 0) (S : ℕ → Type 0) where
   reads-groups q o slot size (suc n) bin prev exps p = (o p, λ grp. go (decode_of prev grp) _ (λ a b c. reads-groups q o slot size n _ c _ (p + 7)))
     where
       go : (g : Group) (f : ℕ → ℕ → ℕ → Tree (List ℕ)) → ((a b c : ℕ) → Reads (f a b c) (p + 7)) → Reads (on_group g f) (p + 7)
-      go (Refused k) f h = tt
-      go (Moved a b c) f h = h a b c
+      go (Err k) f h = tt
+      go (Ok (a, b, c)) f h = h a b c
 
   reads-exponents : (q : Part) → ((p : ℕ) → P q.name p 7) → (slot : ℕ) (st : State) (p : ℕ) → Reads (exponents_of q slot st) p
   unfolding exponents_of set_of

@@ -12,33 +12,28 @@ use Rattle.alloc_host.proofs.alloc_by_codes.Goals as goal
 pub returns-then-end-start : goal.returns-then-end-start
 returns-then-end-start c = c.no_bins.ensures ∙ none-allocated _ _ _ _ _ _ c.if-end-start.true
 
-pub allocate-requires : goal.allocate-requires
-allocate-requires c =
-    let codes = c.args.codes.now in
-    let p = c.requires in
-    let r = p.end_bound.2 in
-    let l = leak-low (eqb (get_or codes 11 0) 1) (get_or codes 9 0) (get_or codes 10 0) r.cplfleak r.cplsleak in record {
-      lent = record {
-        log = c.log_add-latab.ensures;
-        bins = c.masktab-masktab.ensures;
-        ends = c.band_end-ends.ensures;
-        heard = c.hearing-hth.ensures;
-        points = c.pointers-points.ensures;
-      };
-      exponents = rw c.channel_of-c.ensures p.exponents;
-      channelled = (
-        record {
-          within = rw c.channel_of-c.ensures p.end_bound.0;
-          fgain = rw c.channel_of-c.ensures (fastgain-high (get_or codes 6 0));
-          fast = rw c.leak_by-l.ensures l.0;
-          slow = rw c.leak_by-l.ensures l.1;
-          segs = rw c.deltas_of-d.ensures r.segs;
-        },
-        rw c.params_by-p.ensures (codes-tuned _ _ _ _ _ _ r.fscod),
-      );
-      by_index = λ k. let z = zeros 256 k in omega arith;
+pub invariant_of-tables : goal.invariant_of-tables
+invariant_of-tables c =
+    record {
+      log = c.log_add.ensures;
+      bins = c.masktab.ensures;
+      bounds = c.band_end.ensures;
+      heard = c.hearing.ensures;
+      pointed = c.pointers.ensures;
+      share_most = λ k. let z = zeros 256 k in omega arith;
     }
 
-pub returns : goal.returns
-returns c =
-    rw (c.pointers_of-k.ensures, c.channel_of-c.ensures, c.params_by-p.ensures, c.leak_by-l.ensures, c.deltas_of-d.ensures) at c.allocate.ensures.out_after
+pub allocate-requires-clause-channelled : goal.allocate-requires-clause-channelled
+allocate-requires-clause-channelled c =
+    let codes = c.args.codes.now in
+    let r = c.requires.end_bound.2 in
+    let l = leak-low (eqb (get_or codes 11 0) 1) (get_or codes 9 0) (get_or codes 10 0) r.cplfleak r.cplsleak in (
+      record {
+        within = rw c.channel_of-c.ensures c.requires.end_bound.0;
+        fgain = rw c.channel_of-c.ensures (fastgain-high (get_or codes 6 0));
+        fast = rw c.leak_by-l.ensures l.0;
+        slow = rw c.leak_by-l.ensures l.1;
+        segs = rw c.deltas_of-d.ensures r.segs;
+      },
+      rw c.params_by-p.ensures (codes-tuned _ _ _ _ _ _ r.fscod),
+    )

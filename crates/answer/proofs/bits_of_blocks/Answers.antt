@@ -1,6 +1,7 @@
-use Rattle.sideinfo.specs.Steps.{tab_of}
+use mathlib.Core.List.{[]}
+use Rattle.std.proofs.Common.{rules}
+use Rattle.sideinfo.proofs.StepLaws.{made}
 use Rattle.answer.proofs.bits_of_blocks.Goals as goal
 
 pub returns : goal.returns
-unfolding tab_of
-returns c = rw (c.bits_of_block.ensures, c.bits_of_block-2.ensures, c.bits_of_block-3.ensures, c.bits_of_block-4.ensures, c.bits_of_block-5.ensures, c.bits_of_block-6.ensures)
+returns c = made _ _ _ (λ i y q e. search rules) _ _ (record { bits = [] }) c.from_fn.ensures.items

@@ -2,10 +2,10 @@ use Rattle.cells.specs.Cells.{put_in}
 use borrow.Author.Tests.{eq-eqb, ne_eqb}
 use Rattle.cells.proofs.put.Goals as goal
 
-pub returns-then-i-eq0 : goal.returns-then-i-eq0
+pub returns-then-i-ne0 : goal.returns-then-i-ne0
 unfolding put_in
-returns-then-i-eq0 c = rw (eq-eqb _ _ c.if-i-eq0.true)
+returns-then-i-ne0 c = rw (ne_eqb _ _ c.if-i-ne0.true)
 
-pub returns : goal.returns
+pub returns-else-i-ne0 : goal.returns-else-i-ne0
 unfolding put_in
-returns c = rw (ne_eqb _ _ c.if-i-eq0.false, c.low.ensures)
+returns-else-i-ne0 c = rw (eq-eqb _ _ c.if-i-ne0.false)

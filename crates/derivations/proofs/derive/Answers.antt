@@ -4,9 +4,13 @@ use Rattle.derivations.specs.Derivations.{derived}
 use borrow.Author.Tests.{ne_eqb}
 use Rattle.derivations.proofs.derive.Goals as goal
 
-pub returns-in-14 : goal.returns-in-14
+pub returns-in-Ok : goal.returns-in-Ok
 unfolding derived
-returns-in-14 c = record { is = rw c.in-14.is (endmants-are _ _ _ _ c.endmants_in.ensures.0 c.endmants_in.ensures.1); right = c.requires.1 }
+returns-in-Ok c = record { is = rw c.in-14.is (endmants-are _ _ _ _ c.in-Ok.ensures.0 c.in-Ok.ensures.1); right = c.requires.1 }
+
+pub returns-in-Err : goal.returns-in-Err
+unfolding derived
+returns-in-Err c = record { is = rw (c.in-14.is, c.number.ensures) (endmants-are _ _ _ _ c.in-Err.ensures.0 c.in-Err.ensures.1); right = c.requires.1 }
 
 pub allocate_in-requires : goal.allocate_in-requires
 allocate_in-requires c = c.requires

@@ -1,27 +1,45 @@
-use Rattle.exponents.proofs.ExpLaws.{decode-first, decode-second, decode-third, decode-moved, next-byte}
-use native.Mathlib.Omega.{arith}
+use Rattle.std.proofs.Common.{◌≡◌, sym, ◌/◌, ◌%◌, Some, None, arith}
+use Rattle.std.proofs.lemmas.Grind.{common_steps}
 use borrow.Author.Tests.{lt-ltb}
-use Rattle.exponents.specs.Exponents.{decode_of}
+use Rattle.exponents.specs.Exponents.{next_of, decode_of}
+use Rattle.exponents.proofs.ExpLaws.{decode-first, decode-second, decode-third, decode-moved, next-byte}
 use Rattle.exponents.proofs.decode.Goals as goal
 
 pub returns-then-group-gt124 : goal.returns-then-group-gt124
 unfolding decode_of
 returns-then-group-gt124 c = rw (lt-ltb _ _ c.if-group-gt124.true)
 
-pub returns-in_default : goal.returns-in_default
-returns-in_default c = decode-first _ _ _ c.step.ensures c.if-group-gt124.false c.in_default.is
+pub returns-in_err-a : goal.returns-in_err-a
+returns-in_err-a c =
+    let e : next_of c.args.prev (c.args.group / 25) ≡ None = grind arith in
+    grind (arith, common_steps, decode-first _ _ c.if-group-gt124.false e)
 
 pub step-requires-2 : goal.step-requires-2
-step-requires-2 c = (next-byte _ _ _ c.step.ensures c.in-To.is, omega (arith, c.if-group-gt124.false))
+step-requires-2 c =
+    let e : next_of c.args.prev (c.args.group / 25) ≡ Some c.in_ok-a.a = grind arith in
+    (next-byte _ _ _ e, grind arith)
 
-pub returns-in_default-step : goal.returns-in_default-step
-returns-in_default-step c = decode-second _ _ _ c.step.ensures c.if-group-gt124.false _ c.in-To.is _ c.step-2.ensures c.in_default-step.is
+pub returns-in_err-b : goal.returns-in_err-b
+returns-in_err-b c =
+    let e : next_of c.args.prev (c.args.group / 25) ≡ Some c.in_ok-a.a = grind arith in
+    let f : next_of c.in_ok-a.a (c.args.group % 25 / 5) ≡ None = grind arith in
+    grind (arith, common_steps, decode-second _ _ c.if-group-gt124.false _ e f)
 
 pub step-requires-3 : goal.step-requires-3
-step-requires-3 c = (next-byte _ _ _ c.step-2.ensures c.in-To-step.is, omega (arith, c.if-group-gt124.false))
+step-requires-3 c =
+    let f : next_of c.in_ok-a.a (c.args.group % 25 / 5) ≡ Some c.in_ok-b.b = grind arith in
+    (next-byte _ _ _ f, grind arith)
 
-pub returns-in_default-step-2 : goal.returns-in_default-step-2
-returns-in_default-step-2 c = decode-third _ _ _ c.step.ensures c.if-group-gt124.false _ c.in-To.is _ c.step-2.ensures _ c.in-To-step.is _ c.step-3.ensures c.in_default-step-2.is
+pub returns-in_err-c : goal.returns-in_err-c
+returns-in_err-c c =
+    let e : next_of c.args.prev (c.args.group / 25) ≡ Some c.in_ok-a.a = grind arith in
+    let f : next_of c.in_ok-a.a (c.args.group % 25 / 5) ≡ Some c.in_ok-b.b = grind arith in
+    let g : next_of c.in_ok-b.b (c.args.group % 25 % 5) ≡ None = grind arith in
+    grind (arith, common_steps, decode-third _ _ c.if-group-gt124.false _ e _ f g)
 
 pub returns : goal.returns
-returns c = decode-moved _ _ _ c.step.ensures c.if-group-gt124.false _ c.in-To.is _ c.step-2.ensures _ c.in-To-step.is _ c.step-3.ensures _ c.in-To-step-2.is
+returns c =
+    let e : next_of c.args.prev (c.args.group / 25) ≡ Some c.in_ok-a.a = grind arith in
+    let f : next_of c.in_ok-a.a (c.args.group % 25 / 5) ≡ Some c.in_ok-b.b = grind arith in
+    let g : next_of c.in_ok-b.b (c.args.group % 25 % 5) ≡ Some c.in_ok-c.c = grind arith in
+    sym (decode-moved _ _ c.if-group-gt124.false _ e _ f _ g)

@@ -1,11 +1,14 @@
-use Rattle.exponents.proofs.ExpLaws.{size-d45, size-d25, size-d15, put_one}
+use native.Mathlib.Omega.{arith}
+use Rattle.exponents.proofs.ExpLaws.{spread-next, spread-end, put-length}
+use mathlib.Core.Path.{ap, ◌∙◌}
+use lib.ListN.{length}
 use Rattle.exponents.proofs.spread.Goals as goal
 
-pub returns-then-strategy-eq3 : goal.returns-then-strategy-eq3
-returns-then-strategy-eq3 c = rw (size-d45 c.if-strategy-eq3.true) c.put_four.ensures
-
-pub returns-then-strategy-eq2 : goal.returns-then-strategy-eq2
-returns-then-strategy-eq2 c = rw (size-d25 c.if-strategy-eq3.false c.if-strategy-eq2.true) c.put_two.ensures
+pub loop-k-preserved : goal.loop-k-preserved
+loop-k-preserved c = record {
+  left = spread-next _ _ _ _ _ _ _ _ _ c.loop-k.invariant.left c.put.ensures (omega arith) (omega arith);
+  size = ap length c.put.ensures ∙ put-length _ _ _ _ ∙ c.loop-k.invariant.size;
+}
 
 pub returns : goal.returns
-returns c = rw (size-d15 c.if-strategy-eq3.false c.if-strategy-eq2.false) (put_one _ _ _ _ c.put.ensures)
+returns c = spread-end _ _ _ _ _ _ c.loop-k.invariant.left (omega arith)

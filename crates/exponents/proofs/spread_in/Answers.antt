@@ -1,11 +1,14 @@
-use Rattle.exponents.proofs.ExpLaws.{size-d45, size-d25, size-d15}
+use native.Mathlib.Omega.{arith}
+use lib.ListN.{length-set}
+use mathlib.Core.Path.{◌∙◌}
+use Rattle.exponents.proofs.ExpLaws.{spread-next, spread-end, put_in}
 use Rattle.exponents.proofs.spread_in.Goals as goal
 
-pub returns-then-strategy-eq3 : goal.returns-then-strategy-eq3
-returns-then-strategy-eq3 c = rw (size-d45 c.if-strategy-eq3.true) c.four.ensures
-
-pub returns-then-strategy-eq2 : goal.returns-then-strategy-eq2
-returns-then-strategy-eq2 c = rw (size-d25 c.if-strategy-eq3.false c.if-strategy-eq2.true) c.two.ensures
+pub loop-k-preserved : goal.loop-k-preserved
+loop-k-preserved g c = record {
+  left = spread-next _ _ _ _ _ _ _ _ _ c.loop-k.invariant.left (put_in _ _ _ _ _ c.requires.1 (omega arith) (omega arith)) (omega arith) (omega arith);
+  size = length-set _ _ _ ∙ c.loop-k.invariant.size;
+}
 
 pub returns : goal.returns
-returns c = rw (size-d15 c.if-strategy-eq3.false c.if-strategy-eq2.false) c.one.ensures
+returns g c = spread-end _ _ _ _ _ _ c.loop-k.invariant.left (omega arith)

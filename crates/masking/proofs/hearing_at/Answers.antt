@@ -5,16 +5,9 @@ use Prim.Native.Nat.{◌+◌, ◌*◌}
 use Rattle.tables.proofs.Limits.{hth-high}
 use Rattle.masking.proofs.hearing_at.Goals as goal
 
-pub overflow_add-result : goal.overflow_add-result
-overflow_add-result c =
-    let a = c.args in
-    let h = hth-high (50 * a.fscod + a.b) in
-    let e = c.wide16.ensures ∙ ap (λ t. get_or t (50 * a.fscod + a.b) 0) c.requires.0 in
-    omega arith
-
 pub returns : goal.returns
 returns c =
     let a = c.args in
     let h = hth-high (50 * a.fscod + a.b) in
-    let e = c.wide16.ensures ∙ ap (λ t. get_or t (50 * a.fscod + a.b) 0) c.requires.0 in
-    omega arith
+    let e = c.from.ensures ∙ ap (λ t. get_or t (50 * a.fscod + a.b) 0) c.requires.0 in
+    (omega arith, omega arith)

@@ -3,6 +3,5 @@ use Rattle.pointers.proofs.band_of.Goals as goal
 
 pub returns : goal.returns
 returns c =
-    let a = c.args in
-    let p = c.requires in
-    rw (c.index.ensures.0, p.0) (masktab-band a.bin p.1)
+    let t = c.args.tables.now in
+    rw (c.from.ensures, t.bins) (masktab-band c.args.bin c.requires)

@@ -9,6 +9,6 @@ pub returns-then-extended : goal.returns-then-extended
 unfolding endmant_of
 returns-then-extended c = rw (← c.coupled.ensures, c.if-coupled.false, ← c.extended.ensures, c.if-extended.true, c.cell_of-then-extended.ensures)
 
-pub returns : goal.returns
+pub returns-else-extended : goal.returns-else-extended
 unfolding endmant_of
-returns c = rw (← c.coupled.ensures, c.if-coupled.false, ← c.extended.ensures, c.if-extended.false, c.cell_of-2.ensures)
+returns-else-extended c = rw (← c.coupled.ensures, c.if-coupled.false, ← c.extended.ensures, c.if-extended.false, c.cell_of-else-extended.ensures)

@@ -1,14 +1,11 @@
+use Rattle.std.proofs.Common.{rules}
 use Rattle.sideinfo.specs.Blocks.{unknown_of}
 use Rattle.sideinfo.proofs.blocks.unknown.Goals as goal
 
-pub returns-then-coupled : goal.returns-then-coupled
+pub returns-then-not-extended : goal.returns-then-not-extended
 unfolding unknown_of
-returns-then-coupled c = rw (← c.coupled.ensures, c.if-coupled.true)
+returns-then-not-extended c = search rules
 
-pub returns-then-extended : goal.returns-then-extended
+pub returns-else-not-extended : goal.returns-else-not-extended
 unfolding unknown_of
-returns-then-extended c = rw (← c.coupled.ensures, c.if-coupled.false, ← c.extended.ensures, c.if-extended.true)
-
-pub returns : goal.returns
-unfolding unknown_of
-returns c = rw (← c.coupled.ensures, c.if-coupled.false, ← c.extended.ensures, c.if-extended.false, c.cell_of.ensures)
+returns-else-not-extended c = search rules

@@ -1,21 +1,13 @@
-use Rattle.sideinfo.proofs.BlockLaws.{unknown-all, unknown-none, unknown-some}
-use Rattle.sideinfo.specs.Blocks.{unknown_in}
-use mathlib.Core.Path.{◌∙◌, refl, sym}
+use mathlib.Core.Path.{◌∙◌}
 use native.Mathlib.Omega.{arith}
+use Rattle.std.proofs.Common.{rules, tests}
+use Rattle.std.proofs.lemmas.Iterator.{YieldsList-from_range}
+use Rattle.std.proofs.lemmas.Iterator.Search.{any_from_yields_List}
+use Rattle.sideinfo.specs.Blocks.{unknown_of, channels_of}
+use Rattle.sideinfo.proofs.BlockLaws.{unknown-any}
 use Rattle.sideinfo.proofs.blocks.unknown_in.Goals as goal
 
-pub loop-ch-init : goal.loop-ch-init
-unfolding unknown_in
-loop-ch-init c = (omega arith, refl)
-
-pub returns-then-unknown : goal.returns-then-unknown
-returns-then-unknown c = rw (← c.cell_of.ensures, ← c.five-n.ensures.0) (unknown-some _ _ _ c.loop-ch-test.true (sym c.unknown.ensures ∙ c.if-unknown.true))
-
-pub loop-ch-smaller : goal.loop-ch-smaller
-loop-ch-smaller c = omega arith
-
-pub loop-ch-preserved : goal.loop-ch-preserved
-loop-ch-preserved c = (omega arith, unknown-none _ _ c.loop-ch.invariant.1 (sym c.unknown.ensures ∙ c.if-unknown.false))
-
 pub returns : goal.returns
-returns c = rw (← c.cell_of.ensures, ← c.five-n.ensures.0) (unknown-all _ _ _ c.loop-ch.invariant.1 (omega arith))
+returns c =
+    any_from_yields_List (unknown_of c.args.cells.now) _ _ _ c.any.ensures.ran (YieldsList-from_range 0 (channels_of c.args.cells.now) (channels_of c.args.cells.now) (cc) (omega arith)) (λ x b q k. search (rules, tests))
+    ∙ unknown-any c.args.cells.now (channels_of c.args.cells.now)

@@ -1,16 +1,19 @@
-use Rattle.sideinfo.proofs.StepLaws.{sum-all, sum_more, sum-none}
-use mathlib.Core.Path.{◌∙◌}
+use Prim.Native.Nat.{◌+◌}
+use lib.Dec.{eqb}
+use mathlib.Core.Bool.{cond}
+use mathlib.Core.Path.{◌≡◌}
 use native.Mathlib.Omega.{arith}
+use Rattle.std.proofs.Common.{rules, tests}
+use Rattle.std.proofs.lemmas.Iterator.{YieldsList-from_range}
+use Rattle.std.proofs.lemmas.Iterator.Consumers.{YieldsList-from_filter, count_from_yields_List}
+use Rattle.cells.specs.Cells.{cell_of}
+use Rattle.sideinfo.specs.Frames.{holding}
+use Rattle.sideinfo.proofs.StepLaws.{counted, sum-most, bit-le}
 use Rattle.sideinfo.proofs.flags.count.Goals as goal
 
-pub loop-i-init : goal.loop-i-init
-loop-i-init c = (omega arith, omega arith, sum-none _)
-
-pub loop-i-smaller : goal.loop-i-smaller
-loop-i-smaller c = omega arith
-
-pub loop-i-preserved : goal.loop-i-preserved
-loop-i-preserved c = (omega arith, omega arith, sum_more _ _ _ _ c.loop-i.invariant.2 (c.hit-sum.ensures.0 ∙ rw c.cell_of.ensures))
-
 pub returns : goal.returns
-returns c = (sum-all _ _ _ _ c.loop-i.invariant.2 (omega arith), omega arith)
+returns c =
+    let e : c.count.result ≡ holding c.args.cells.now c.args.k c.args.v c.args.n =
+    counted _ _ _ (count_from_yields_List c.filter.result _ c.count.ensures.ran
+    (YieldsList-from_filter _ (λ i. eqb (cell_of c.args.cells.now (c.args.k + i)) c.args.v) (YieldsList-from_range 0 c.args.n c.args.n (cc) (omega arith)) c.filter.ensures.closure (λ x r q k. search (rules, tests)))) in
+    (e, omega (arith, sum-most (λ i. cond (eqb (cell_of c.args.cells.now (c.args.k + i)) c.args.v) 1 0) c.args.n (λ i. bit-le _)))

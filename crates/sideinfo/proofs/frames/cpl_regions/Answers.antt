@@ -1,16 +1,16 @@
-use Rattle.sideinfo.proofs.StepLaws.{sum-all, sum_more, sum-none}
-use mathlib.Core.Path.{◌∙◌}
+use Prim.Native.Nat.{◌+◌}
+use lib.Dec.{eqb}
+use mathlib.Core.Bool.{not, ◌||◌}
 use native.Mathlib.Omega.{arith}
+use Rattle.std.proofs.Common.{rules, tests}
+use Rattle.std.proofs.lemmas.Iterator.{YieldsList-from_range}
+use Rattle.std.proofs.lemmas.Iterator.Consumers.{YieldsList-from_filter, count_from_yields_List}
+use Rattle.cells.specs.Cells.{cell_of}
+use Rattle.cells.specs.Names.{CPLSTRE, CPLEXPSTR}
+use Rattle.sideinfo.proofs.StepLaws.{counted}
 use Rattle.sideinfo.proofs.frames.cpl_regions.Goals as goal
 
-pub loop-i-init : goal.loop-i-init
-loop-i-init c = (omega arith, omega arith, sum-none _)
-
-pub loop-i-smaller : goal.loop-i-smaller
-loop-i-smaller c = omega arith
-
-pub loop-i-preserved : goal.loop-i-preserved
-loop-i-preserved c = (omega arith, omega arith, sum_more _ _ _ _ c.loop-i.invariant.2 (c.cpl_begins-sum.ensures.0 ∙ rw (c.cell_of.ensures, c.cell_of-in-loop-i.ensures)))
-
 pub returns : goal.returns
-returns c = sum-all _ _ _ _ c.loop-i.invariant.2 (omega arith)
+returns c =
+    counted _ _ _ (count_from_yields_List c.filter.result _ c.count.ensures.ran
+    (YieldsList-from_filter _ (λ i. eqb (cell_of c.args.cells.now (CPLSTRE + i)) 1 || not (eqb (cell_of c.args.cells.now (CPLEXPSTR + i)) 0)) (YieldsList-from_range 0 6 6 (cc) (omega arith)) c.filter.ensures.closure (λ x r q k. search (rules, tests))))

@@ -1,23 +1,18 @@
-use Rattle.sideinfo.proofs.FrameLaws.{far-le}
-use Rattle.sideinfo.proofs.StepLaws.{sum-all, sum_more, sum-none}
-use mathlib.Core.Path.{◌∙◌}
+use Prim.Native.Nat.{◌+◌, ◌*◌}
+use lib.Dec.{eqb}
+use mathlib.Core.Bool.{not}
+use mathlib.Core.Path.{sym, ◌∙◌}
 use native.Mathlib.Omega.{arith}
+use Rattle.std.proofs.Common.{rules, tests}
+use Rattle.std.proofs.lemmas.Iterator.{YieldsList-from_range}
+use Rattle.std.proofs.lemmas.Iterator.Consumers.{YieldsList-from_filter, count_from_yields_List}
+use Rattle.cells.specs.Cells.{cell_of}
+use Rattle.sideinfo.proofs.StepLaws.{counted, same_sum}
+use Rattle.sideinfo.proofs.FrameLaws.{swapped}
 use Rattle.sideinfo.proofs.frames.regions_from.Goals as goal
 
-pub loop-i-init : goal.loop-i-init
-loop-i-init c = (omega arith, omega arith, sum-none _)
-
-pub overflow_mul-d : goal.overflow_mul-d
-overflow_mul-d c = omega (arith, far-le c.args.d c.loop-i.i c.requires.1 c.loop-i-test.true)
-
-pub overflow_add-k : goal.overflow_add-k
-overflow_add-k c = omega (arith, far-le c.args.d c.loop-i.i c.requires.1 c.loop-i-test.true)
-
-pub loop-i-smaller : goal.loop-i-smaller
-loop-i-smaller c = omega arith
-
-pub loop-i-preserved : goal.loop-i-preserved
-loop-i-preserved c = (omega arith, omega arith, sum_more _ _ _ _ c.loop-i.invariant.2 (c.begins-sum.ensures.0 ∙ rw c.cell_of.ensures))
-
 pub returns : goal.returns
-returns c = sum-all _ _ _ _ c.loop-i.invariant.2 (omega arith)
+returns c =
+    counted _ _ _ (count_from_yields_List c.filter.result _ c.count.ensures.ran
+    (YieldsList-from_filter _ (λ i. not (eqb (cell_of c.args.cells.now (c.args.k + c.args.d * i)) 0)) (YieldsList-from_range 0 6 6 (cc) (omega arith)) c.filter.ensures.closure (λ x r q k. search (rules, tests))))
+    ∙ same_sum _ _ 6 (λ i l. sym (swapped _))

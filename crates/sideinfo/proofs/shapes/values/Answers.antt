@@ -1,0 +1,6 @@
+use Rattle.std.proofs.Common.{rules}
+use Rattle.sideinfo.proofs.StepLaws.{made}
+use Rattle.sideinfo.proofs.shapes.values.Goals as goal
+
+pub returns : goal.returns
+returns g c = made _ _ _ (λ i y q e. search rules) _ _ 0 c.from_fn.ensures.items
