@@ -1,10 +1,10 @@
 -- Bits out of whole bytes: what `load` and `four_bytes` have loaded, and the windows that `get` and `bits_at` shift out. Assumes nothing.
 use Prim.Native.Nat.{ℕ, ◌+◌, ◌-◌, ◌*◌, ◌/◌, ◌%◌, ◌^◌, ◌≤◌, ◌<◌}
 use mathlib.Core.Path.{◌≡◌, refl, sym, ap, ◌∙◌}
-use mathlib.Core.List.{List, []}
+use mathlib.Core.List.{List}
 use native.Mathlib.Omega.{arith}
 use native.Mathlib.Nat.{mul_assoc, add-mul, add_assoc, one-mul, lt_of_lt_of_le}
-use lib.Pow.{pow-add, pow_mono, high, low, field, shl_exact, shl-shr, shr-shr, pow_pos}
+use lib.Pow.{pow-add, pow_mono, high, low, field, shl_exact, shl-shr, shr-shr}
 use lib.ListN.{get_or}
 use Rattle.bits.specs.Bits.{bits_at}
 use Rattle.bits.proofs.BitLaws.{bits_at-add, bits_at-lt, byte-is}
@@ -20,38 +20,30 @@ module _ (s : List ℕ) where
       = bits_at-add s f d (w + r) ∙ rw (bits_at-add s (f + d) w r, pow-add 2 w r) (parts (bits_at s f d) (2 ^ w) (bits_at s (f + d) w) (2 ^ r) (bits_at s (f + d + w) r)) in
       rw (e, high (bits_at s f d * 2 ^ w + bits_at s (f + d) w) r (bits_at-lt s (f + d + w) r)) (low (bits_at s f d) w (bits_at-lt s (f + d) w))
 
-  pub none : (f : ℕ) → 0 ≡ bits_at s (8 * f) (8 * (f - f))
-  unfolding bits_at
-  none f = let e : 8 * (f - f) ≡ 0 = omega arith in rw e
-
   -- one byte more
-  pub more : (f i l v y : ℕ) → f ≤ i → l ≡ i + 1 → v ≡ bits_at s (8 * f) (8 * (i - f)) → y ≡ get_or s i 0 → y < 256 → v * 256 + y ≡ bits_at s (8 * f) (8 * (l - f))
-  more f i l v y h t e g k =
-      let a : 8 * (l - f) ≡ 8 * (i - f) + 8 = omega arith in
-      let b : 8 * f + 8 * (i - f) ≡ 8 * i = omega arith in
-      let z : bits_at s (8 * i) 8 ≡ y = byte-is s i (rw (← g) k) ∙ sym g in
-      rw (a, bits_at-add s (8 * f) (8 * (i - f)) 8, b, z, ← e)
+  pub more : (f n v y : ℕ) → v ≡ bits_at s (8 * f) (8 * n) → y ≡ get_or s (f + n) 0 → y < 256 → v * 256 + y ≡ bits_at s (8 * f) (8 * (n + 1))
+  more f n v y e g k =
+      let a : 8 * (n + 1) ≡ 8 * n + 8 = omega arith in
+      let b : 8 * f + 8 * n ≡ 8 * (f + n) = omega arith in
+      let z : bits_at s (8 * (f + n)) 8 ≡ y = byte-is s (f + n) (rw (← g) k) ∙ sym g in
+      rw (a, bits_at-add s (8 * f) (8 * n) 8, b, z, ← e)
 
-  -- one byte is one more than none, two are one more than one
-  pub one : (f l y : ℕ) → l ≡ f + 1 → y ≡ get_or s f 0 → y < 256 → y ≡ bits_at s (8 * f) (8 * (l - f))
-  one f l y t g k = let e : y ≡ 0 * 256 + y = omega arith in e ∙ more f f l 0 y (omega arith) t (none f) g k
+  -- one byte, two and four at once
+  module _ (f : ℕ) where
+    pub one : get_or s f 0 < 256 → get_or s f 0 ≡ bits_at s (8 * f) 8
+    one k = sym (byte-is s f k)
 
-  pub two : (f l y z : ℕ) → l ≡ f + 2 → y ≡ get_or s f 0 → y < 256 → z ≡ get_or s (f + 1) 0 → z < 256 → y * 256 + z ≡ bits_at s (8 * f) (8 * (l - f))
-  two f l y z t g k h m = more f (f + 1) l y z (omega arith) (omega arith) (one f (f + 1) y refl g k) h m
+    pub two : get_or s f 0 < 256 → get_or s (f + 1) 0 < 256 → get_or s f 0 * 256 + get_or s (f + 1) 0 ≡ bits_at s (8 * f) 16
+    two k m = more f 1 _ _ (one k) refl m
 
-  pub four : (f a b c d : ℕ) → a ≡ get_or s f 0 → a < 256 → b ≡ get_or s (f + 1) 0 → b < 256 → c ≡ get_or s (f + 2) 0 → c < 256 → d ≡ get_or s (f + 3) 0 → d < 256
-      → ((a * 256 + b) * 256 + c) * 256 + d ≡ bits_at s (8 * f) 32
-  four f a b c d ea ha eb hb ec hc ed hd =
-      let e : 8 * (f + 4 - f) ≡ 32 = omega arith in
-      more f (f + 3) (f + 4) _ d (omega arith) (omega arith)
-      (more f (f + 2) (f + 3) _ c (omega arith) (omega arith) (two f (f + 2) a b refl ea ha eb hb) ec hc)
-      ed hd
-      ∙ ap (bits_at s (8 * f)) e
+    pub four : ((i : ℕ) → get_or s i 0 < 256)
+        → ((get_or s f 0 * 256 + get_or s (f + 1) 0) * 256 + get_or s (f + 2) 0) * 256 + get_or s (f + 3) 0 ≡ bits_at s (8 * f) 32
+    four k = more f 3 _ _ (more f 2 _ _ (two (k f) (k (f + 1))) refl (k (f + 2))) refl (k (f + 3))
 
-  pub small : (f i v : ℕ) → v ≡ bits_at s (8 * f) (8 * (i - f)) → i ≤ f + 4 → v < 2 ^ 32
-  small f i v e h = rw e (lt_of_lt_of_le (bits_at-lt s (8 * f) (8 * (i - f))) (pow_mono {i = 8 * (i - f)} {j = 32} (omega arith)))
+  pub small : (f n v : ℕ) → v ≡ bits_at s (8 * f) (8 * n) → n ≤ 4 → v < 2 ^ 32
+  small f n v e h = rw e (lt_of_lt_of_le (bits_at-lt s (8 * f) (8 * n)) (pow_mono {i = 8 * n} {j = 32} (omega arith)))
 
-  pub one_shl : (w : ℕ) → w ≤ 32 → 1 * 2 ^ w % 18446744073709551616 ≡ 2 ^ w
+  one_shl : (w : ℕ) → w ≤ 32 → 1 * 2 ^ w % 18446744073709551616 ≡ 2 ^ w
   one_shl w h = shl_exact {a = 1} 1 w 64 (omega arith) (omega arith) ∙ one-mul (2 ^ w)
 
   module _ (at w v : ℕ) (k : w ≤ 32) (e : v ≡ bits_at s (8 * (at / 8)) (8 * ((at + w + 7) / 8 - at / 8))) where
@@ -60,9 +52,6 @@ module _ (s : List ℕ) where
         let n : 8 * ((at + w + 7) / 8 - at / 8) ≡ at % 8 + (w + ((at + w + 7) / 8 * 8 - (at + w))) = omega arith in
         let p : 8 * (at / 8) + at % 8 ≡ at = omega arith in
         rw (one_shl w k, e, n) (window (8 * (at / 8)) (at % 8) w ((at + w + 7) / 8 * 8 - (at + w)) ∙ ap (λ j. bits_at s j w) p)
-
-    pub got-small : v / 2 ^ ((at + w + 7) / 8 * 8 - (at + w)) % (1 * 2 ^ w % 18446744073709551616) < 2 ^ 32
-    got-small = rw got-bits (lt_of_lt_of_le (bits_at-lt s at w) (pow_mono {i = w} {j = 32} k))
 
   module _ (at w v : ℕ) (k : w ≤ 25) (e : v ≡ bits_at s (8 * (at / 8)) 32) where
     below : v < 2 ^ 32
@@ -86,9 +75,3 @@ module _ (s : List ℕ) where
         = ap (λ (i : ℕ). i / 2 ^ (32 - w - at % 8) % 2 ^ w) (e ∙ ap (bits_at s (8 * (at / 8))) n)
         ∙ window (8 * (at / 8)) (at % 8) w (32 - w - at % 8) in
         ap (λ (i : ℕ). i % 4294967296 / 2 ^ (32 - w)) a ∙ b ∙ ap (λ (i : ℕ). i % 2 ^ w) c ∙ d ∙ ap (λ (i : ℕ). bits_at s i w) p
-
-    pub shifted-small : v * 2 ^ (at % 8) % 18446744073709551616 % 4294967296 / 2 ^ (32 - w) < 2 ^ 32
-    shifted-small = rw shifted (lt_of_lt_of_le (bits_at-lt s at w) (pow_mono {i = w} {j = 32} (omega arith)))
-
-pub one-shl-pos : (w : ℕ) → w ≤ 32 → 1 ≤ 1 * 2 ^ w % 18446744073709551616
-one-shl-pos w h = rw (one_shl [] w h) (pow_pos w)

@@ -5,11 +5,11 @@ ghost use Rattle.std.specs.Prelude.{◌≡◌, false, ◌+◌, ◌*◌, ◌-◌,
 ghost use Rattle.bits.specs.Bits.{bits_at, get_of};
 
 // A place in a syncframe, in bits from its first one. A frame has at most 32,768.
-#[derive(Clone, Copy)]
+#[derive(Clone, Copy, PartialEq, Eq, PartialOrd, Ord, Debug)]
 pub struct BitPlace(pub u16);
 
 // A number of whole bytes. A frame has at most 4,096.
-#[derive(Clone, Copy)]
+#[derive(Clone, Copy, PartialEq, Eq, PartialOrd, Ord, Debug)]
 pub struct ByteCount(pub u16);
 
 impl ByteCount {
@@ -38,12 +38,6 @@ pub fn past(at: BitPlace, width: u16, end: BitPlace) -> bool
     (end.0 as u32) < at.0 as u32 + width as u32
 }
 
-fn wide(x: u8) -> u64
-    ensures { (result ≡ x) × (result < 256) }
-{
-    x as u64
-}
-
 // The number that the bytes from `first` up to `last` are: one and two at once, others in a loop.
 fn load(src: &[u8], first: usize, last: usize) -> u64
     requires { (first ≤ last) × (last ≤ first + 5) × (last ≤ length src.now) }
@@ -51,16 +45,14 @@ fn load(src: &[u8], first: usize, last: usize) -> u64
 {
     let n = last - first;
     if n == 1 {
-        return wide(src[first]);
+        return src[first] as u64;
     }
     if n == 2 {
-        return wide(src[first]) * 256 + wide(src[first + 1]);
+        return src[first] as u64 * 256 + src[first + 1] as u64;
     }
-    let mut v: u64 = 0;
-    let mut i = first;
-    while i < last {
-        v = v * 256 + wide(src[i]);
-        i += 1;
+    let mut v = 0;
+    for b in &src[first..last] {
+        v = v * 256 + *b as u64;
     }
     v
 }
@@ -88,8 +80,8 @@ fn four_bytes(src: &[u8], first: usize) -> u64
     requires { first + 4 ≤ length src.now }
     ensures { result ≡ bits_at src.now (8 * first) 32 }
 {
-    ((wide(src[first]) * 256 + wide(src[first + 1])) * 256 + wide(src[first + 2])) * 256
-        + wide(src[first + 3])
+    ((src[first] as u64 * 256 + src[first + 1] as u64) * 256 + src[first + 2] as u64) * 256
+        + src[first + 3] as u64
 }
 
 // The `width` bits from `at` on, at most 25 of them, which lie in the slice: quicker than `get`. Out of four

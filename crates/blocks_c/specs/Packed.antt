@@ -1,9 +1,10 @@
 -- Results as one number each, for a driver outside.
-use Rattle.std.specs.Prelude.{Ok, Err, ◌≡◌, List, ℕ, ◌+◌, ◌*◌}
+use Rattle.std.specs.Prelude.{◌≡◌, List, ℕ, ◌+◌, ◌*◌, Result, Ok, Err}
 use Rattle.reading.specs.Run.{Outcome}
+use Rattle.refusals.specs.Refusals.{number_of}
+use Rattle.refusals.specs.declared.Refused.{Refused}
 use Rattle.mantissas.specs.Outcomes.{groups_outcome}
 use Rattle.hybrid.specs.Outcomes.{slot_outcome}
-use Rattle.refusals.specs.Refusals.{number_of}
 use Rattle.exponents.specs.Exponents.{Group}
 use Rattle.mantissas.specs.declared.Groups.{Groups}
 use Rattle.allocation.specs.State.{number_in, Allocated}
@@ -23,13 +24,22 @@ pub record Ends (r : ℕ) (baps : List ℕ) (a : Allocated) : Type 0 where
 abbrev pub packed : ℕ → ℕ → ℕ → ℕ → ℕ → ℕ
 packed number place x y z = number + 256 * place + 16777216 * x + 4294967296 * y + 1099511627776 * z
 
+-- the counts of groups stand there after a refusal too; tags do not
+abbrev pub packed_passed : Result Passed Refused → Groups → ℕ
+packed_passed (Ok p) g = packed 0 p.place.0 g.g1 g.g2 g.g4
+packed_passed (Err e) g = packed (number_of e.refusal) e.place.0 g.g1 g.g2 g.g4
+
+abbrev pub packed_tags : Result Transformed Refused → ℕ
+packed_tags (Ok t) = packed 0 t.place.0 t.tags 0 0
+packed_tags (Err e) = packed (number_of e.refusal) e.place.0 0 0 0
+
 pub record PassedOutcome (r : ℕ) (o : List ℕ → Outcome Groups) : Type 0 where
-  pub passed : Passed
-  pub number : ℕ
-  pub is : r ≡ packed number passed.place.0 passed.groups.g1 passed.groups.g2 passed.groups.g4
-  pub tells : (s : List ℕ) → groups_outcome passed ≡ o s
+  pub passed : Result Passed Refused
+  pub groups : Groups
+  pub is : r ≡ packed_passed passed groups
+  pub tells : (s : List ℕ) → groups_outcome passed groups ≡ o s
 
 pub record TagsOutcome (r : ℕ) (o : Outcome ℕ) : Type 0 where
-  pub tagged : Transformed
-  pub is : r ≡ packed tagged.number tagged.place.0 tagged.tags 0 0
+  pub tagged : Result Transformed Refused
+  pub is : r ≡ packed_tags tagged
   pub tells : slot_outcome tagged ≡ o

@@ -82,10 +82,6 @@ fn pack(number: u8, place: BitPlace, x: u16, y: u8, z: u8) -> u64
         + 1099511627776 * u64::from(z)
 }
 
-fn eight(refused: bool) -> u8 {
-    if refused { 8 } else { 0 }
-}
-
 // The three counts come in and go out.
 #[unsafe(no_mangle)]
 pub extern "C" fn blocks_conventional(
@@ -102,17 +98,20 @@ pub extern "C" fn blocks_conventional(
     requires { (length baps.now ≡ 1792) × (slot < 7) × (end ≤ 256) }
     ensures { PassedOutcome result (λ s. skim (conventional_of baps.now slot start (end - start) (record { g1 = g1; g2 = g2; g4 = g4 })) s at limit) }
 {
-    let p = mantissas::conventional(
+    let mut g = Groups { g1, g2, g4 };
+    let told = mantissas::conventional(
         baps,
         slot,
         start,
         end,
-        Groups { g1, g2, g4 },
+        &mut g,
         BitPlace(at),
         BitPlace(limit),
     );
-    let g = p.groups;
-    pack(eight(p.refused), p.place, u16::from(g.g1), g.g2, g.g4)
+    match told {
+        Ok(p) => pack(0, p.place, u16::from(g.g1), g.g2, g.g4),
+        Err(e) => pack(e.refusal.number(), e.place, u16::from(g.g1), g.g2, g.g4),
+    }
 }
 
 #[unsafe(no_mangle)]
@@ -128,8 +127,10 @@ pub extern "C" fn blocks_aht(
     requires { (length baps.now ≡ 1792) × (slot < 7) × (end ≤ 256) × (limit ≤ 8 * length src.now) }
     ensures { TagsOutcome result (skim (aht_of baps.now slot start (end - start)) src.now at limit) }
 {
-    let t = hybrid::aht(src, baps, slot, start, end, BitPlace(at), BitPlace(limit));
-    pack(t.number, t.place, t.tags, 0, 0)
+    match hybrid::aht(src, baps, slot, start, end, BitPlace(at), BitPlace(limit)) {
+        Ok(t) => pack(0, t.place, t.tags, 0, 0),
+        Err(e) => pack(e.refusal.number(), e.place, 0, 0, 0),
+    }
 }
 
 fn sent_of(sent: bool, codes: &[u8; 5]) -> Option<Codes>

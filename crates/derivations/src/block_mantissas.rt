@@ -9,9 +9,10 @@ ghost use Rattle.derivations.specs.Mantissas.{mantissas_in};
 
 use bits::BitPlace;
 use plan::{Taken, mantissas};
+use refusals::Refused;
 use sideinfo::shapes::shape_of;
 
-// The mantissas of the block: a refusal's number and place, or the place after them and the tags counted.
+// The mantissas of the block: the place after them, the tags counted and the bits of each slot, or a refusal.
 pub fn mantissas_in(
     src: &[u8],
     cells: &[u16; 1024],
@@ -19,7 +20,7 @@ pub fn mantissas_in(
     memo: &[u64; 42],
     at: BitPlace,
     limit: BitPlace,
-) -> Taken
+) -> Result<Taken, Refused>
     requires { (Tallies memo.now baps.now) × (limit.0 ≤ 8 * length src.now) }
     ensures { (exps : List ℕ) → taken result ≡ skim (mantissas_in (state cells.now (bins exps baps.now))) src.now at.0 limit.0 }
 {

@@ -4,14 +4,15 @@ use mathlib.Core.Bool.{Bool, true, false, cond}
 use mathlib.Core.Path.{◌≡◌, refl, sym, ap, ap₂, ◌∙◌}
 use mathlib.Core.List.{List, ◌∷◌}
 use native.Mathlib.Omega.{arith}
-use native.Mathlib.Decide.{dec_le, ℕ_discrete}
+use native.Mathlib.Decide.{dec_le}
 use native.Mathlib.Numerals.{add-one}
 use lib.Dec.{leb, ltb, eqb}
 use lib.IntN.{ℤ, pos, negsuc}
 use mir.Val.{SFits, to_z, of_z}
 use mir.Syntax.{w8, w16}
 use mir.Facts.{to_z-of_z}
-use borrow.Author.Tests.{le-leb, lt-leb, lt-ltb, le-ltb, ltb-false, eq-eqb, ne_eqb}
+use borrow.Author.Tests.{le-leb, lt-leb, lt-ltb, le-ltb, ltb-false}
+use Rattle.std.specs.Prelude.{Result as Ended, Ok, Err}
 use Rattle.bits.specs.Bits.{bits_at}
 use Rattle.reading.specs.Tree.{Part, Tree, done, ◌>>=◌}
 use Rattle.reading.specs.Run.{Field, field_of, Result, accepted, refused, Outcome, skim}
@@ -23,6 +24,7 @@ use Rattle.slots.specs.Held.{bins}
 use Rattle.exponents.specs.Set.{set_of}
 use Rattle.exponents.specs.SetRead.{SetRead}
 use Rattle.plan.specs.Taken.{taken}
+use Rattle.refusals.specs.declared.Refused.{Refused}
 use Rattle.plan.specs.declared.Taken.{Taken}
 use Rattle.kept.specs.Kept.{stale_of}
 use Rattle.allocation.proofs.MemoLaws.{memo-stale}
@@ -32,7 +34,7 @@ use Rattle.derivations.specs.Sets.{strategy_of, start_of, end_of, exponents_of}
 use Rattle.derivations.specs.Mantissas.{mantissas_in}
 use Rattle.rows.specs.Rows.{name_in, width_in, index_in, keep_in, region_in, slot_in}
 use Rattle.rows.specs.Steps.{input_in, set_in}
-use Rattle.inputs.specs.Reads.{Right, bits_of, passed_of, passed_by, Looks, Sees, Takes, Gathers, set_by}
+use Rattle.inputs.specs.Reads.{Right, short, bits_of, passed_of, passed_by, bits_taken, Looks, Sees, Takes, Gathers, set_by}
 use Rattle.recording.specs.Recorded.{looked, recorded, Keeps}
 use Rattle.recording.specs.declared.Look.{Look}
 use Rattle.inputs.specs.declared.Set.{Set}
@@ -42,20 +44,20 @@ module _ (l p d : ℕ) (b : Bool) (eb : b ≡ ltb l (p + d)) where
   pub ends : b ≡ false → p + d ≤ l
   ends h = ltb-false _ _ (sym eb ∙ h)
 
-  pub span-past : b ≡ true → (x : Look) → x ≡ looked 8 p 0 0 0 → x ≡ passed_of l p d
-  span-past h x e = rw (e, ← eb, h) refl
+  pub span-past : b ≡ true → Err (short p) ≡ passed_of l p d
+  span-past h = rw (← eb, h) refl
 
-  pub span-found : b ≡ false → looked 0 (p + d) d 0 0 ≡ passed_of l p d
+  pub span-found : b ≡ false → Ok (looked (p + d) d 0 0) ≡ passed_of l p d
   span-found h = rw (← eb, h) refl
 
-  pub bits-past : (s : List ℕ) → b ≡ true → (x : Look) → x ≡ looked 8 p 0 0 0 → x ≡ bits_of s l p d
-  bits-past s h x e = rw (e, ← eb, h) refl
+  pub bits-past : (s : List ℕ) → b ≡ true → Err (short p) ≡ bits_of s l p d
+  bits-past s h = rw (← eb, h) refl
 
-  pub bits-found : (s : List ℕ) → b ≡ false → (v : ℕ) → v ≡ bits_at s p d → looked 0 (p + d) d v v ≡ bits_of s l p d
+  pub bits-found : (s : List ℕ) → b ≡ false → (v : ℕ) → v ≡ bits_at s p d → Ok (looked (p + d) d v v) ≡ bits_of s l p d
   bits-found s h v e = rw (e, ← eb, h) refl
 
 -- what a row of input finds, by its kind
-module _ (s : List ℕ) (l w : ℕ) (st : State) (p : ℕ) (x : Look) where
+module _ (s : List ℕ) (l w : ℕ) (st : State) (p : ℕ) (x : Ended Look Refused) where
   test : (a b : ℕ) (y z : Out State) → cond (leb a b) y z ≡ cond (ltb b a) z y
   test a b y z = go (dec_le a b)
     where
@@ -65,7 +67,7 @@ module _ (s : List ℕ) (l w : ℕ) (st : State) (p : ℕ) (x : Look) where
 
   found : (c : Bool) (d v q : ℕ) (m : Room)
       → cond c (got (refused 8) p q m) (record_in (field_of (part_of (name_in w) (index_in w) st.cells) p d v) q m (λ n m. got (accepted (stored st (place_of (keep_in w) st.cells) v)) (p + d) n m))
-      ≡ recorded w (cond c (looked 8 p 0 0 0) (looked 0 (p + d) d v v)) st p q m
+      ≡ recorded w (cond c (Err (short p)) (Ok (looked (p + d) d v v))) st p q m
   found true d v q m = refl
   found false d v q m = refl
 
@@ -97,7 +99,7 @@ index-fits n = by (eqb (n % 32768) 0)
     by false = record { sfits = omega arith }
 
 -- what is found and stored is what is read
-pub takes : {s : List ℕ} {l w : ℕ} {cells : List ℕ} {p q : ℕ} {m : Room} {x : Look} {c : Cursor} {cells' : List ℕ} {m' : Room}
+pub takes : {s : List ℕ} {l w : ℕ} {cells : List ℕ} {p q : ℕ} {m : Room} {x : Ended Look Refused} {c : Cursor} {cells' : List ℕ} {m' : Room}
     → Sees s l w cells p x → Keeps w x cells p q m c cells' m' → Takes s l w cells p q m c cells' m'
 takes {q} {m} h k = record { is = λ b. k.is b ∙ sym ((h.is b).is q m) }
 
@@ -117,43 +119,43 @@ after-outcome f c st m = go c.stopped
     go false = refl
 
 -- the mantissas: their record, and then what their walk tells
-module _ (s : List ℕ) (l w : ℕ) (st : State) (p q : ℕ) (m : Room) (t : Taken) (e : taken t ≡ skim (mantissas_in st) s p l) where
-  abbrev behind : State → State
-  behind st' = stored_all st' (suc (place_of (keep_in w) st.cells)) t.bits
+module _ (s : List ℕ) (l w : ℕ) (st : State) (p q : ℕ) (m : Room) where
+  abbrev behind : List ℕ → State → State
+  behind bits st' = stored_all st' (suc (place_of (keep_in w) st.cells)) bits
 
-  abbrev field : Field
-  field = field_of (part_of (name_in w) (index_in w) st.cells) p (t.place.0 - p) 0
+  abbrev field : ℕ → Field
+  field e = field_of (part_of (name_in w) (index_in w) st.cells) p (e - p) 0
 
-  kept : (b : Bool) → after behind (cond b (got (refused 33) p q m) (got (accepted (stored st (place_of (keep_in w) st.cells) t.tags)) t.place.0 (q + 1) (pushed m q field)))
-      ≡ cond b (got (refused 33) p q m) (got (accepted (stored_all st (place_of (keep_in w) st.cells) (t.tags ∷ t.bits))) t.place.0 (q + 1) (pushed m q field))
+  kept : (tags : ℕ) (bits : List ℕ) (e : ℕ) (b : Bool)
+      → after (behind bits) (cond b (got (refused 33) p q m) (got (accepted (stored st (place_of (keep_in w) st.cells) tags)) e (q + 1) (pushed m q (field e))))
+      ≡ cond b (got (refused 33) p q m) (got (accepted (stored_all st (place_of (keep_in w) st.cells) (tags ∷ bits))) e (q + 1) (pushed m q (field e)))
   unfolding puts_in
-  kept true = refl
-  kept false = refl
+  kept tags bits e true = refl
+  kept tags bits e false = refl
 
-  told : (x : Look) → x ≡ passed_by t p → 4 ≤ w % 16 → after behind (recorded w x st p q m) ≡ exec s l (input_in w st) p q m
+  abbrev then_kept : Outcome (List ℕ) → Out State
+  then_kept o = skimmed_by o.result o.place q m (λ v e. record_in (field e) q m (λ n m. got (accepted (stored_all st (place_of (keep_in w) st.cells) v)) e n m))
+
+  told : (t : Ended Taken Refused) → taken t ≡ skim (mantissas_in st) s p l → 4 ≤ w % 16 → after (behind (bits_taken t)) (recorded w (passed_by t p) st p q m) ≡ exec s l (input_in w st) p q m
   unfolding exec input_in skimmed_by
-  told x ex h =
-      rw (le-ltb (w % 16) 3 (omega arith), le-ltb _ _ h, ex)
-      (go (ℕ_discrete t.number 0)
-      ∙ ap (λ (o : Outcome (List ℕ)). skimmed_by o.result o.place q m (λ v e. record_in (field_of (part_of (name_in w) (index_in w) st.cells) p (e - p) 0) q m (λ n m. got (accepted (stored_all st (place_of (keep_in w) st.cells) v)) e n m))) e)
+  told t e h = rw (le-ltb (w % 16) 3 (omega arith), le-ltb _ _ h) (go t ∙ ap then_kept e)
     where
-      go : Dec (t.number ≡ 0) → after behind (recorded w (passed_by t p) st p q m)
-          ≡ skimmed_by (taken t).result (taken t).place q m (λ v e. record_in (field_of (part_of (name_in w) (index_in w) st.cells) p (e - p) 0) q m (λ n m. got (accepted (stored_all st (place_of (keep_in w) st.cells) v)) e n m))
-      go (yes z) = rw (eq-eqb _ _ z) (kept (leb (size m) q))
-      go (no z) = rw (ne_eqb _ _ z, ne_eqb _ _ z) refl
+      go : (t : Ended Taken Refused) → after (behind (bits_taken t)) (recorded w (passed_by t p) st p q m) ≡ then_kept (taken t)
+      go (Ok t) = kept t.tags t.bits t.place.0 (leb (size m) q)
+      go (Err e) = refl
 
 -- the mantissas, and a set of exponents
 module _ (s : List ℕ) (l w : ℕ) (exps baps cells mem : List ℕ) (right : Right mem (bins exps baps)) (p q : ℕ) (m : Room) where
-  pub gathers-mantissas : 4 ≤ w % 16 → w % 16 < 8 → (t : Taken) → taken t ≡ skim (mantissas_in (state cells (bins exps baps))) s p l → (x : Look) → x ≡ passed_by t p
-      → (c : Cursor) (cells' : List ℕ) (m' : Room) → Keeps w x cells p q m c cells' m' → (k : ℕ) → k ≡ place_of (keep_in w) cells → (cells'' : List ℕ) → cells'' ≡ puts_in cells' (k + 1) t.bits
+  pub gathers-mantissas : 4 ≤ w % 16 → w % 16 < 8 → (t : Ended Taken Refused) → taken t ≡ skim (mantissas_in (state cells (bins exps baps))) s p l → (x : Ended Look Refused) → x ≡ passed_by t p
+      → (c : Cursor) (cells' : List ℕ) (m' : Room) → Keeps w x cells p q m c cells' m' → (k : ℕ) → k ≡ place_of (keep_in w) cells → (cells'' : List ℕ) → cells'' ≡ puts_in cells' (k + 1) (bits_taken t)
       → Gathers s l w (state cells (bins exps baps)) p q m c (state cells'' (bins exps baps)) m' mem
   gathers-mantissas lo hi t et x ex c cells' m' kp k ek cells'' ec =
       let st = state cells (bins exps baps) in
       record {
-        is = ap (λ (y : List ℕ). outcome c (state y (bins exps baps)) m') (ec ∙ ap (λ j. puts_in cells' j t.bits) (add-one k ∙ ap suc ek))
-            ∙ after-outcome (behind s l w st p q m t et) c (state cells' (bins exps baps)) m'
-            ∙ ap (after (behind s l w st p q m t et)) (kp.is (bins exps baps))
-            ∙ told s l w st p q m t et x ex lo ∙ (rw (lt-ltb _ _ hi) refl);
+        is = ap (λ (y : List ℕ). outcome c (state y (bins exps baps)) m') (ec ∙ ap (λ j. puts_in cells' j (bits_taken t)) (add-one k ∙ ap suc ek))
+            ∙ after-outcome (behind s l w st p q m (bits_taken t)) c (state cells' (bins exps baps)) m'
+            ∙ ap (after (behind s l w st p q m (bits_taken t))) (kp.is (bins exps baps))
+            ∙ ap (λ x. after (behind s l w st p q m (bits_taken t)) (recorded w x st p q m)) ex ∙ told s l w st p q m t et lo ∙ (rw (lt-ltb _ _ hi) refl);
         right = right;
       }
 

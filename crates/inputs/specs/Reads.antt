@@ -1,11 +1,13 @@
 -- What the functions ask that read and record, and what they tell.
-use Rattle.std.specs.Prelude.{ℕ, ◌+◌, ◌-◌, ◌*◌, ◌%◌, ◌≤◌, ◌<◌, cond, List, ◌≡◌, ltb, eqb, length}
+use Rattle.std.specs.Prelude.{ℕ, ◌+◌, ◌-◌, ◌*◌, ◌%◌, ◌≤◌, ◌<◌, cond, List, ◌≡◌, ltb, length, replicate, Result, Ok, Err}
 use Rattle.bits.specs.Bits.{bits_at}
 use Rattle.reading.specs.Room.{Room, exec}
 use Rattle.syntax.specs.Records.{outcome}
 use Rattle.syntax.specs.Rooms.{Fills}
 use Rattle.syntax.specs.declared.Cursor.{Cursor}
 use Rattle.slots.specs.Held.{Bins, Held}
+use Rattle.refusals.specs.declared.Refusal.TheVariants.{Truncated}
+use Rattle.refusals.specs.declared.Refused.{Refused}
 use Rattle.plan.specs.declared.Taken.{Taken}
 use Rattle.allocation.specs.Memo.{Memo}
 use Rattle.cells.specs.Cells.{State, state, cell_of, sum_of, signed}
@@ -26,22 +28,32 @@ pub record Ready (s : List ℕ) (l w most : ℕ) (m : Room) : Type 0 where
   pub wide : Wide s l w
   pub fills : Fills most m
 
--- bits that are read, and bits that are passed over
-abbrev pub bits_of : List ℕ → ℕ → ℕ → ℕ → Look
-bits_of s l p w = cond (ltb l (p + w)) (looked 8 p 0 0 0) (looked 0 (p + w) w (bits_at s p w) (bits_at s p w))
+-- bits that would pass the end
+abbrev pub short : ℕ → Refused
+short p = record { refusal = Truncated; place = record { 0 = p } }
 
-abbrev pub passed_of : ℕ → ℕ → ℕ → Look
-passed_of l p w = cond (ltb l (p + w)) (looked 8 p 0 0 0) (looked 0 (p + w) w 0 0)
+-- bits that are read, and bits that are passed over
+abbrev pub bits_of : List ℕ → ℕ → ℕ → ℕ → Result Look Refused
+bits_of s l p w = cond (ltb l (p + w)) (Err (short p)) (Ok (looked (p + w) w (bits_at s p w) (bits_at s p w)))
+
+abbrev pub passed_of : ℕ → ℕ → ℕ → Result Look Refused
+passed_of l p w = cond (ltb l (p + w)) (Err (short p)) (Ok (looked (p + w) w 0 0))
 
 -- the mantissas of the block, from the place p on: a span, and the first number that their walk tells
-abbrev pub passed_by : Taken → ℕ → Look
-passed_by t p = cond (eqb t.number 0) (looked 0 t.place.0 (t.place.0 - p) 0 t.tags) (looked t.number t.place.0 0 0 0)
+abbrev pub passed_by : Result Taken Refused → ℕ → Result Look Refused
+passed_by (Ok t) p = Ok (looked t.place.0 (t.place.0 - p) 0 t.tags)
+passed_by (Err e) p = Err e
+
+-- the other numbers that it tells: after a refusal all are 0
+abbrev pub bits_taken : Result Taken Refused → List ℕ
+bits_taken (Ok t) = t.bits
+bits_taken (Err e) = replicate 7 0
 
 -- a row of input finds this at the place p; an element or a span does, whatever the bins are
-pub record Looks (s : List ℕ) (l w : ℕ) (st : State) (p : ℕ) (x : Look) : Type 0 where
+pub record Looks (s : List ℕ) (l w : ℕ) (st : State) (p : ℕ) (x : Result Look Refused) : Type 0 where
   pub is : (q : ℕ) (m : Room) → exec s l (input_in w st) p q m ≡ recorded w x st p q m
 
-pub record Sees (s : List ℕ) (l w : ℕ) (cells : List ℕ) (p : ℕ) (x : Look) : Type 0 where
+pub record Sees (s : List ℕ) (l w : ℕ) (cells : List ℕ) (p : ℕ) (x : Result Look Refused) : Type 0 where
   pub is : (b : Bins) → Looks s l w (state cells b) p x
 
 -- an element or a span was read once

@@ -5,8 +5,7 @@ ghost use Rattle.std.specs.Prelude.{◌≡◌, ◌*◌, ◌%◌, ◌≤◌, ◌<
 ghost use Rattle.reading.specs.Room.{room};
 ghost use Rattle.slots.specs.Held.{bins};
 ghost use Rattle.cells.specs.Cells.{state, puts_in};
-ghost use Rattle.recording.specs.Recorded.{looked};
-ghost use Rattle.inputs.specs.Reads.{Wide, Ready, bits_of, passed_of, passed_by, Sees, Takes, Opens, Gathers, set_by};
+ghost use Rattle.inputs.specs.Reads.{Wide, Ready, bits_of, passed_of, passed_by, bits_taken, Sees, Takes, Opens, Gathers, set_by};
 
 use bits::{BitPlace, bits_at, past};
 use cells::numbers::{ABSEXP, BLOCK};
@@ -17,73 +16,77 @@ use exponents::set::read_exponents;
 use kept::stale;
 use plan::Taken;
 use recording::{Look, keep};
+use refusals::{Refusal, Refused};
 use rows::fields::{block_part, index_of, index_part, keep_of, name_of, slot_of, width_of};
-use skim::between;
 use syntax::Cursor;
 
-fn missed(number: u8, place: BitPlace) -> Look
-    ensures { result ≡ looked number place.0 0 0 0 }
-{
-    Look {
-        number: number,
-        place: place,
-        width: 0,
-        value: 0,
-        stored: 0,
-    }
-}
-
 // The bits of an element; those of a span; the mantissas of the block.
-fn element(src: &[u8], at: BitPlace, limit: BitPlace, width: u16) -> Look
+fn element(src: &[u8], at: BitPlace, limit: BitPlace, width: u16) -> Result<Look, Refused>
     requires { (width ≤ 25) × (limit.0 ≤ 8 * length src.now) }
     ensures { result ≡ bits_of src.now limit.0 at.0 width }
 {
     if past(at, width, limit) {
-        return missed(8, at);
+        return Err(Refused {
+            refusal: Refusal::Truncated,
+            place: at,
+        });
     }
     let value = bits_at(src, at, width);
-    Look {
-        number: 0,
+    Ok(Look {
         place: BitPlace(at.0 + width),
-        width: width,
-        value: value,
+        width,
+        value,
         stored: value,
-    }
+    })
 }
 
-fn span(at: BitPlace, limit: BitPlace, width: u16) -> Look
+fn span(at: BitPlace, limit: BitPlace, width: u16) -> Result<Look, Refused>
     ensures { result ≡ passed_of limit.0 at.0 width }
 {
     if past(at, width, limit) {
-        return missed(8, at);
+        return Err(Refused {
+            refusal: Refusal::Truncated,
+            place: at,
+        });
     }
-    Look {
-        number: 0,
+    Ok(Look {
         place: BitPlace(at.0 + width),
-        width: width,
+        width,
         value: 0,
         stored: 0,
-    }
+    })
 }
 
-fn mantissas(t: Taken, at: BitPlace) -> Look
+fn mantissas(t: Result<Taken, Refused>, at: BitPlace) -> Result<Look, Refused>
     ensures { result ≡ passed_by t at.0 }
 {
-    let end = t.place;
-    if t.number != 0 {
-        return missed(t.number, end);
-    }
-    Look {
-        number: 0,
-        place: end,
-        width: between(at, end),
+    let t = t?;
+    Ok(Look {
+        place: t.place,
+        width: t.place.0.saturating_sub(at.0),
         value: 0,
-        stored: t.tags as u32,
+        stored: u32::from(t.tags),
+    })
+}
+
+// The bits that each slot took: none after a refusal.
+fn bits_taken(t: Result<Taken, Refused>) -> [u16; 7]
+    ensures { result ≡ bits_taken t }
+{
+    match t {
+        Ok(t) => t.bits,
+        Err(_) => [0; 7],
     }
 }
 
 // What an element or a span finds at a place.
-fn seek(src: &[u8], cells: &[u16; 1024], at: BitPlace, limit: BitPlace, w: u64) -> Look
+fn seek(
+    src: &[u8],
+    cells: &[u16; 1024],
+    at: BitPlace,
+    limit: BitPlace,
+    w: u64,
+) -> Result<Look, Refused>
     requires { (Wide src.now limit.0 w) × (w % 16 < 4) }
     ensures { Sees src.now limit.0 w cells.now at.0 result }
 {
@@ -158,10 +161,8 @@ fn tell(cells: &mut [u16; 1024], k: usize, numbers: [u16; 7])
     requires { k ≤ 590839 }
     ensures { cells.new ≡ puts_in cells.old k numbers }
 {
-    let mut i: usize = 0;
-    while i < 7 {
-        put(cells, k + i, numbers[i] as u32);
-        i += 1;
+    for (i, number) in numbers.iter().enumerate() {
+        put(cells, k + i, u32::from(*number));
     }
 }
 
@@ -195,8 +196,7 @@ pub fn gather(
         let c = keep(
             names, blocks, indexes, firsts, widths, values, cells, at, count, most, w, l,
         );
-        let bits = t.bits;
-        tell(cells, k + 1, bits);
+        tell(cells, k + 1, bits_taken(t));
         return c;
     }
     let x = set_of(w, cells);

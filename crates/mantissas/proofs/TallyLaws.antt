@@ -174,11 +174,40 @@ start2 c = go (eqb c 0)
     go true = refl
     go false = omega arith
 
-pub opened3-is : (n c : ℕ) → opened_of 3 c n ≡ cond (eqb c 0) ((n + 2) / 3) ((n + c % 3 - 3 + 2) / 3)
+opened3-is : (n c : ℕ) → opened_of 3 c n ≡ cond (eqb c 0) ((n + 2) / 3) ((n + c % 3 - 3 + 2) / 3)
 opened3-is = opened-by 3 closed3 start3 step3
 
-pub opened2-is : (n c : ℕ) → opened_of 2 c n ≡ cond (eqb c 0) ((n + 1) / 2) ((n + c % 2 - 2 + 1) / 2)
+opened2-is : (n c : ℕ) → opened_of 2 c n ≡ cond (eqb c 0) ((n + 1) / 2) ((n + c % 2 - 2 + 1) / 2)
 opened2-is = opened-by 2 closed2 start2 step2
+
+-- of a group of two or of three
+module _ (size count n m : ℕ) (lo : 2 ≤ size) (hi : size ≤ 3) (e : m ≡ cond (eqb count 0) n (n + count % size - size)) where
+  two : size ≡ 2 → (m + size - 1) / size ≡ opened_of size count n
+  two h = rw (e, h, opened2-is n count) (go (eqb count 0))
+    where
+      go : (t : Bool) → (cond t n (n + count % 2 - 2) + 2 - 1) / 2 ≡ cond t ((n + 1) / 2) ((n + count % 2 - 2 + 1) / 2)
+      go true = omega arith
+      go false = omega arith
+
+  three : size ≡ 3 → (m + size - 1) / size ≡ opened_of size count n
+  three h = rw (e, h, opened3-is n count) (go (eqb count 0))
+    where
+      go : (t : Bool) → (cond t n (n + count % 3 - 3) + 3 - 1) / 3 ≡ cond t ((n + 2) / 3) ((n + count % 3 - 3 + 2) / 3)
+      go true = omega arith
+      go false = omega arith
+
+  pub opened-is : (m + size - 1) / size ≡ opened_of size count n
+  opened-is = by_cases (ℕ_discrete size 2) two (λ h. three (omega arith))
+
+  ahead-most : m ≤ n
+  ahead-most = rw e (go (eqb count 0))
+    where
+      go : (t : Bool) → cond t n (n + count % size - size) ≤ n
+      go true = omega arith
+      go false = omega arith
+
+  pub opened-low : n < 65536 → (m + size - 1) / size ≤ 65535
+  opened-low h = by_cases (ℕ_discrete size 2) (λ d. rw d (omega (arith, ahead-most))) (λ k. let d : size ≡ 3 = omega arith in rw d (omega (arith, ahead-most)))
 
 pub turned-is : (size n c : ℕ) → turned_of size c n ≡ cond (eqb n 0) c ((c + n) % size)
 unfolding turned_of

@@ -2,16 +2,16 @@
 // clause 6.3.5). Of the input only the end is asked for.
 #![tactic(auto)]
 
-ghost use Rattle.std.specs.Prelude.{◌≡◌, cond, List, ℕ, ◌+◌, ◌-◌, ◌%◌, ◌<◌, ◌≤◌, length, get_or};
+ghost use Rattle.std.specs.Prelude.{◌≡◌, List, ℕ, ◌+◌, ◌-◌, ◌%◌, ◌<◌, ◌≤◌, length, get_or, IfOk};
 ghost use Rattle.tables.specs.Small.{bap_bits};
 ghost use Rattle.reading.specs.Run.{skim};
 ghost use Rattle.mantissas.specs.Mantissas.{opens_of, width_of, counted_of, conventional_of};
 ghost use Rattle.mantissas.specs.Tally.{tally_of, spent_of, left_of};
 ghost use Rattle.mantissas.specs.Outcomes.{groups_outcome};
 
-use crate::tally::{Tally, opened2, opened3, tallied, turned2, turned3};
+use crate::tally::{Tally, opened, tallied, turned};
 use bits::{BitPlace, past};
-use skim::between;
+use refusals::{Refusal, Refused};
 
 pub mod tally; // what the pointers of a range come to
 
@@ -23,13 +23,10 @@ pub struct Groups {
     pub g4: u8,
 }
 
-// Where the mantissas of a range end, or that they pass the frame's end, and where the first does; and the bits that
-// they took, 0 after a refusal.
+// Where the mantissas of a range end, and the bits that they took.
 #[derive(Clone, Copy)]
 pub struct Passed {
-    pub refused: bool,
     pub place: BitPlace,
-    pub groups: Groups,
     pub bits: u16,
 }
 
@@ -37,19 +34,13 @@ pub struct Passed {
 fn alone(bap: u8) -> u16
     ensures { result ≡ get_or bap_bits bap 0 }
 {
-    if 16 <= bap {
-        return 0;
+    match bap {
+        3 => 3,
+        5..=13 => u16::from(bap) - 1,
+        14 => 14,
+        15 => 16,
+        _ => 0,
     }
-    if bap == 3 {
-        return 3;
-    }
-    if bap < 5 {
-        return 0;
-    }
-    if bap < 14 {
-        return bap as u16 - 1;
-    }
-    if bap == 14 { 14 } else { 16 }
 }
 
 // A group's bits come with its first mantissa.
@@ -59,60 +50,68 @@ fn opens(count: u8, bits: u16) -> u16
     if count == 0 { bits } else { 0 }
 }
 
-// The bits that are read at a mantissa.
-fn width(g: Groups, bap: u8) -> u16
-    ensures { result ≡ width_of g bap }
+// The count of a group of `size` after one more mantissa.
+fn turn(count: u8, size: u8) -> u8
+    requires { 0 < size }
+    ensures { result ≡ (count + 1) % size }
 {
-    if bap == 1 {
-        return opens(g.g1, 5);
-    }
-    if bap == 2 {
-        return opens(g.g2, 7);
-    }
-    if bap == 4 {
-        return opens(g.g4, 7);
-    }
-    alone(bap)
+    ((u16::from(count) + 1) % u16::from(size)) as u8
 }
 
-fn turn3(count: u8) -> u8
-    ensures { result ≡ (count + 1) % 3 }
-{
-    ((count as u16 + 1) % 3) as u8
-}
+impl Groups {
+    // The bits that are read at a mantissa.
+    fn width(self, bap: u8) -> u16
+        ensures { result ≡ width_of self bap }
+    {
+        match bap {
+            1 => opens(self.g1, 5),
+            2 => opens(self.g2, 7),
+            4 => opens(self.g4, 7),
+            _ => alone(bap),
+        }
+    }
 
-fn turn2(count: u8) -> u8
-    ensures { result ≡ (count + 1) % 2 }
-{
-    ((count as u16 + 1) % 2) as u8
-}
+    // The counts after a mantissa.
+    fn counted(self, bap: u8) -> Groups
+        ensures { result ≡ counted_of self bap }
+    {
+        match bap {
+            1 => Groups {
+                g1: turn(self.g1, 3),
+                ..self
+            },
+            2 => Groups {
+                g2: turn(self.g2, 3),
+                ..self
+            },
+            4 => Groups {
+                g4: turn(self.g4, 2),
+                ..self
+            },
+            _ => self,
+        }
+    }
 
-// The counts after a mantissa.
-fn counted(g: Groups, bap: u8) -> Groups
-    ensures { result ≡ counted_of g bap }
-{
-    if bap == 1 {
-        return Groups {
-            g1: turn3(g.g1),
-            g2: g.g2,
-            g4: g.g4,
-        };
+    // All bits of the mantissas of a tally.
+    fn spent(self, t: Tally) -> u32
+        ensures { (result ≡ spent_of self t) × (result ≤ 1310700) }
+    {
+        u32::from(t.alone)
+            + 5 * opened::<3>(self.g1, t.n1)
+            + 7 * opened::<3>(self.g2, t.n2)
+            + 7 * opened::<2>(self.g4, t.n4)
     }
-    if bap == 2 {
-        return Groups {
-            g1: g.g1,
-            g2: turn3(g.g2),
-            g4: g.g4,
-        };
+
+    // The counts after them.
+    fn left(self, t: Tally) -> Groups
+        ensures { result ≡ left_of self t }
+    {
+        Groups {
+            g1: turned::<3>(self.g1, t.n1),
+            g2: turned::<3>(self.g2, t.n2),
+            g4: turned::<2>(self.g4, t.n4),
+        }
     }
-    if bap == 4 {
-        return Groups {
-            g1: g.g1,
-            g2: g.g2,
-            g4: turn2(g.g4),
-        };
-    }
-    g
 }
 
 // Passes the mantissas of the bins `start` to `end` - 1 of a slot, one by one: refusal 8 at the first bit of
@@ -122,58 +121,31 @@ fn one_by_one(
     slot: u8,
     start: u16,
     end: u16,
-    g: Groups,
+    groups: &mut Groups,
     at: BitPlace,
     limit: BitPlace,
-) -> Passed
+) -> Result<Passed, Refused>
     requires { (length baps.now ≡ 1792) × (slot < 7) × (end ≤ 256) }
-    ensures { ((s : List ℕ) → groups_outcome result ≡ skim (conventional_of baps.now slot start (end - start) g) s at.0 limit.0) × (result.bits ≡ cond result.refused 0 (result.place.0 - at.0)) }
+    ensures { ((s : List ℕ) → groups_outcome result groups.new ≡ skim (conventional_of baps.now slot start (end - start) groups.old) s at.0 limit.0) × IfOk result (λ p. p.bits ≡ p.place.0 - at.0) }
 {
-    let base = 256 * (slot as usize);
-    let mut p = at;
-    let mut q = g;
-    let mut i = start;
-    while i < end {
-        let k = base + i as usize;
-        let bap = baps[k];
-        let w = width(q, bap);
-        if past(p, w, limit) {
-            return Passed {
-                refused: true,
-                place: p,
-                groups: q,
-                bits: 0,
-            };
+    let base = 256 * usize::from(slot);
+    let mut place = at;
+    for i in start..end {
+        let bap = baps[base + usize::from(i)];
+        let width = groups.width(bap);
+        if past(place, width, limit) {
+            return Err(Refused {
+                refusal: Refusal::Truncated,
+                place,
+            });
         }
-        p = BitPlace(p.0 + w);
-        q = counted(q, bap);
-        i += 1;
+        place = BitPlace(place.0 + width);
+        *groups = groups.counted(bap);
     }
-    let bits = between(at, p);
-    Passed {
-        refused: false,
-        place: p,
-        groups: q,
-        bits: bits,
-    }
-}
-
-// All bits of the mantissas of a tally.
-fn spent(g: Groups, t: Tally) -> u32
-    ensures { (result ≡ spent_of g t) × (result ≤ 1310700) }
-{
-    t.alone as u32 + 5 * opened3(g.g1, t.n1) + 7 * opened3(g.g2, t.n2) + 7 * opened2(g.g4, t.n4)
-}
-
-// The counts after them.
-fn left(g: Groups, t: Tally) -> Groups
-    ensures { result ≡ left_of g t }
-{
-    Groups {
-        g1: turned3(g.g1, t.n1),
-        g2: turned3(g.g2, t.n2),
-        g4: turned2(g.g4, t.n4),
-    }
+    Ok(Passed {
+        place,
+        bits: place.0.saturating_sub(at.0),
+    })
 }
 
 // Passes the mantissas of the bins `start` to `end` - 1 of a slot, whose tally is `t`: refusal 8 at the first
@@ -185,25 +157,23 @@ pub fn pass(
     slot: u8,
     start: u16,
     end: u16,
-    g: Groups,
+    groups: &mut Groups,
     at: BitPlace,
     limit: BitPlace,
-) -> Passed
+) -> Result<Passed, Refused>
     requires { (t ≡ tally_of baps.now slot start (end - start)) × (length baps.now ≡ 1792) × (slot < 7) × (end ≤ 256) }
-    ensures { ((s : List ℕ) → groups_outcome result ≡ skim (conventional_of baps.now slot start (end - start) g) s at.0 limit.0) × (result.bits ≡ cond result.refused 0 (result.place.0 - at.0)) }
+    ensures { ((s : List ℕ) → groups_outcome result groups.new ≡ skim (conventional_of baps.now slot start (end - start) groups.old) s at.0 limit.0) × IfOk result (λ p. p.bits ≡ p.place.0 - at.0) }
 {
-    let p = at.0 as u32 + spent(g, t);
-    if (limit.0 as u32) < p {
-        return one_by_one(baps, slot, start, end, g, at, limit);
+    let end_place = u32::from(at.0) + groups.spent(t);
+    if u32::from(limit.0) < end_place {
+        return one_by_one(baps, slot, start, end, groups, at, limit);
     }
-    let place = BitPlace(p as u16);
-    let bits = between(at, place);
-    Passed {
-        refused: false,
-        place: place,
-        groups: left(g, t),
-        bits: bits,
-    }
+    *groups = groups.left(t);
+    let place = BitPlace(end_place as u16);
+    Ok(Passed {
+        place,
+        bits: place.0.saturating_sub(at.0),
+    })
 }
 
 // The same, the tally counted here.
@@ -212,13 +182,13 @@ pub fn conventional(
     slot: u8,
     start: u16,
     end: u16,
-    g: Groups,
+    groups: &mut Groups,
     at: BitPlace,
     limit: BitPlace,
-) -> Passed
+) -> Result<Passed, Refused>
     requires { (length baps.now ≡ 1792) × (slot < 7) × (end ≤ 256) }
-    ensures { ((s : List ℕ) → groups_outcome result ≡ skim (conventional_of baps.now slot start (end - start) g) s at.0 limit.0) × (result.bits ≡ cond result.refused 0 (result.place.0 - at.0)) }
+    ensures { ((s : List ℕ) → groups_outcome result groups.new ≡ skim (conventional_of baps.now slot start (end - start) groups.old) s at.0 limit.0) × IfOk result (λ p. p.bits ≡ p.place.0 - at.0) }
 {
     let t = tallied(baps, slot, start, end);
-    pass(t, baps, slot, start, end, g, at, limit)
+    pass(t, baps, slot, start, end, groups, at, limit)
 }

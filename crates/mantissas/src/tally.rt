@@ -41,22 +41,12 @@ fn sum(shares: &[u64; 256], baps: &[u8], slot: u8, start: u16, end: u16) -> u64
     requires { (shares.now ≡ tab share_of 0 256) × (length baps.now ≡ 1792) × (slot < 7) × (end ≤ 256) }
     ensures { result ≡ packed (tally_of baps.now slot start (end - start)) }
 {
-    let base = 256 * (slot as usize);
+    let base = 256 * usize::from(slot);
     let mut x: u64 = 0;
-    let mut i = start;
-    while i < end {
-        let k = base + i as usize;
-        let b = wide(baps[k]);
-        x += shares[b];
-        i += 1;
+    for i in start..end {
+        x += shares[usize::from(baps[base + usize::from(i)])];
     }
     x
-}
-
-fn wide(x: u8) -> usize
-    ensures { (result ≡ x) × (result < 256) }
-{
-    x as usize
 }
 
 // The four fields of a sum.
@@ -82,48 +72,27 @@ pub fn tallied(baps: &[u8; 1792], slot: u8, start: u16, end: u16) -> Tally
     fields(sum(&t, baps, slot, start, end))
 }
 
-fn less(a: u32, b: u32) -> u32
-    ensures { result ≡ a - b }
+// How many of `n` mantissas open a group of SIZE, where `count` of the group at hand have passed.
+pub fn opened<const SIZE: u8>(count: u8, n: u16) -> u32
+    requires { (2 ≤ SIZE) × (SIZE ≤ 3) }
+    ensures { (result ≡ opened_of SIZE count n) × (result ≤ 65535) }
 {
-    if b <= a { a - b } else { 0 }
+    let size = u32::from(SIZE);
+    let ahead = if count == 0 {
+        u32::from(n)
+    } else {
+        (u32::from(n) + u32::from(count) % size).saturating_sub(size)
+    };
+    (ahead + size - 1) / size
 }
 
-// How many of `n` mantissas open a group of three, where `count` of the group at hand have passed.
-pub fn opened3(count: u8, n: u16) -> u32
-    ensures { (result ≡ opened_of 3 count n) × (result ≤ 65535) }
-{
-    if count == 0 {
-        return (n as u32 + 2) / 3;
-    }
-    (less(n as u32 + count as u32 % 3, 3) + 2) / 3
-}
-
-// The same of a group of two.
-pub fn opened2(count: u8, n: u16) -> u32
-    ensures { (result ≡ opened_of 2 count n) × (result ≤ 65535) }
-{
-    if count == 0 {
-        return (n as u32 + 1) / 2;
-    }
-    (less(n as u32 + count as u32 % 2, 2) + 1) / 2
-}
-
-// How many of a group of three have passed, `n` mantissas later.
-pub fn turned3(count: u8, n: u16) -> u8
-    ensures { result ≡ turned_of 3 count n }
+// How many of a group of SIZE have passed, `n` mantissas later.
+pub fn turned<const SIZE: u8>(count: u8, n: u16) -> u8
+    requires { 0 < SIZE }
+    ensures { result ≡ turned_of SIZE count n }
 {
     if n == 0 {
         return count;
     }
-    ((count as u32 + n as u32) % 3) as u8
-}
-
-// The same of a group of two.
-pub fn turned2(count: u8, n: u16) -> u8
-    ensures { result ≡ turned_of 2 count n }
-{
-    if n == 0 {
-        return count;
-    }
-    ((count as u32 + n as u32) % 2) as u8
+    ((u32::from(count) + u32::from(n)) % u32::from(SIZE)) as u8
 }

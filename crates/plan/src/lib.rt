@@ -1,121 +1,74 @@
 // The mantissas of a block, slot by slot (A/52 clause 5.3.3, TS 102 366 clauses 4.3.3 and E.1.2.4).
 #![tactic(auto)]
 
-ghost use Rattle.std.specs.Prelude.{◌≡◌, cond, ◌&&◌, ◌||◌, not, false, [], ◌+◌, ◌*◌, ◌<◌, ◌≤◌, min, eqb, length, get_or, set};
-ghost use Rattle.reading.specs.Run.{skim, out};
+ghost use Rattle.std.specs.Prelude.{◌≡◌, ◌&&◌, false, ◌+◌, ◌*◌, ◌<◌, ◌≤◌, length, get_or, OnOk};
+ghost use Rattle.reading.specs.Run.{skim};
 ghost use Rattle.allocation.specs.Memo.{Tallies};
-ghost use Rattle.plan.specs.Plan.{along, visit_if, mantissas_of};
-ghost use Rattle.plan.specs.Taken.{taking_outcome, onward, taken, NoneTold, ended_of};
-ghost use Rattle.skim.specs.Outcomes.{or_past};
+ghost use Rattle.plan.specs.Plan.{visit_of, mantissas_of};
+ghost use Rattle.plan.specs.Taken.{along_of, taking_outcome, taken};
 
 use allocation::memo::tally_at;
 use bits::BitPlace;
 use hybrid::aht;
 use mantissas::{Groups, pass};
-use slots::{CPL, LFE, Shape, hybrid, least, range_at, read};
+use refusals::Refused;
+use slots::{CPL, LFE, Shape, hybrid, range_at, read};
 
-// Where the walk through a block stands: a refusal number, or 0; the place; the tags; the counts of groups; the bits that
-// each slot took.
+// Where the walk through a block stands: the place; the tags; the counts of groups; the bits that each slot took.
 #[derive(Clone, Copy)]
 pub struct Taking {
-    pub number: u8,
     pub place: BitPlace,
     pub tags: u16,
     pub groups: Groups,
     pub bits: [u16; 7],
 }
 
-// A refusal number, or 0; the place; the tags counted and the bits that each slot took, all 0 after a refusal.
+// The place after the mantissas of a block, the tags counted and the bits that each slot took.
 #[derive(Clone, Copy)]
 pub struct Taken {
-    pub number: u8,
     pub place: BitPlace,
     pub tags: u16,
     pub bits: [u16; 7],
 }
 
-// The bits of the slots, those of one slot among them.
-fn noted(bits: [u16; 7], slot: u8, n: u16) -> [u16; 7]
-    requires { slot < 7 }
-    ensures { result ≡ set bits slot n }
-{
-    let mut b = bits;
-    b[slot as usize] = n;
-    b
-}
-
-// The mantissas of a slot, where it is wanted and no refusal stands.
-fn visit(
-    src: &[u8],
-    baps: &[u8; 1792],
-    memo: &[u64; 42],
-    shape: Shape,
-    wanted: bool,
-    slot: u8,
-    t: Taking,
-    limit: BitPlace,
-) -> Taking
-    requires { (Tallies memo.now baps.now) × (slot < 7) × (limit.0 ≤ 8 * length src.now) × (t.tags ≤ 32768) }
-    ensures { (taking_outcome result ≡ onward t (visit_if baps.now shape wanted slot) src.now limit.0) × (result.tags ≤ t.tags + 1536) }
-{
-    if t.number != 0 {
-        return t;
-    }
-    if !wanted {
-        return t;
-    }
-    if read(shape, slot) {
-        return t;
-    }
-    let r = range_at(shape, slot);
-    let g = t.groups;
-    let at = t.place;
-    if hybrid(shape, slot) {
-        let a = aht(src, baps, slot, r.start, r.end, at, limit);
-        let place = a.place;
-        let old = t.bits;
-        let bits = noted(old, slot, a.bits);
-        return Taking {
-            number: a.number,
-            place: place,
-            tags: t.tags + a.tags,
-            groups: g,
-            bits: bits,
-        };
-    }
-    let p = pass(
-        tally_at(memo, baps, slot, r.start, r.end),
-        baps,
-        slot,
-        r.start,
-        r.end,
-        g,
-        at,
-        limit,
-    );
-    let old = t.bits;
-    let bits = noted(old, slot, p.bits);
-    passed(p.refused, p.place, p.groups, t.tags, bits)
-}
-
-fn passed(refused: bool, place: BitPlace, groups: Groups, tags: u16, bits: [u16; 7]) -> Taking
-    ensures { (taking_outcome result ≡ out (or_past refused (along groups tags bits)) place.0 []) × (result.tags ≡ tags) }
-{
-    if refused {
-        return Taking {
-            number: 8,
-            place: place,
-            tags: tags,
-            groups: groups,
-            bits: bits,
-        };
-    }
-    Taking {
-        number: 0,
-        place: place,
-        tags: tags,
-        groups: groups,
-        bits: bits,
+impl Taking {
+    // Passes the mantissas of a slot, unless they are read already.
+    fn visit(
+        &mut self,
+        src: &[u8],
+        baps: &[u8; 1792],
+        memo: &[u64; 42],
+        shape: Shape,
+        slot: u8,
+        limit: BitPlace,
+    ) -> Result<(), Refused>
+        requires { (Tallies memo.now baps.now) × (slot < 7) × (limit.0 ≤ 8 * length src.now) × (self.old.tags ≤ 32768) }
+        ensures { (taking_outcome result self.new ≡ skim (visit_of baps.now shape slot (along_of self.old)) src.now self.old.place.0 limit.0) × OnOk result (self.new.tags ≤ self.old.tags + 1536) }
+    {
+        if read(shape, slot) {
+            return Ok(());
+        }
+        let range = range_at(shape, slot);
+        if hybrid(shape, slot) {
+            let t = aht(src, baps, slot, range.start, range.end, self.place, limit)?;
+            self.place = t.place;
+            self.tags += t.tags;
+            self.bits[usize::from(slot)] = t.bits;
+            return Ok(());
+        }
+        let p = pass(
+            tally_at(memo, baps, slot, range.start, range.end),
+            baps,
+            slot,
+            range.start,
+            range.end,
+            &mut self.groups,
+            self.place,
+            limit,
+        )?;
+        self.place = p.place;
+        self.bits[usize::from(slot)] = p.bits;
+        Ok(())
     }
 }
 
@@ -124,44 +77,7 @@ fn coupled(shape: Shape, ch: u8) -> bool
     requires { ch < 5 }
     ensures { result ≡ shape.cplinu && get_or shape.chincpl ch false }
 {
-    let i = ch as usize;
-    let a = shape.cplinu;
-    let b = shape.chincpl[i];
-    a && b
-}
-
-fn first(coupled: bool, got: bool) -> bool
-    ensures { result ≡ coupled && not got }
-{
-    coupled && !got
-}
-
-fn either(a: bool, b: bool) -> bool
-    ensures { result ≡ a || b }
-{
-    a || b
-}
-
-// The end of the walk.
-fn ended(t: Taking) -> Taken
-    ensures { result ≡ ended_of t }
-{
-    let place = t.place;
-    if t.number != 0 {
-        return Taken {
-            number: t.number,
-            place: place,
-            tags: 0,
-            bits: [0; 7],
-        };
-    }
-    let bits = t.bits;
-    Taken {
-        number: t.number,
-        place: place,
-        tags: t.tags,
-        bits: bits,
-    }
+    shape.cplinu && shape.chincpl[usize::from(ch)]
 }
 
 // The mantissas of a block: its channels, the coupling channel after the first coupled one, the LFE
@@ -173,13 +89,11 @@ pub fn mantissas(
     shape: Shape,
     at: BitPlace,
     limit: BitPlace,
-) -> Taken
+) -> Result<Taken, Refused>
     requires { (Tallies memo.now baps.now) × (limit.0 ≤ 8 * length src.now) }
-    ensures { (taken result ≡ skim (mantissas_of baps.now shape) src.now at.0 limit.0) × (¬ (result.number ≡ 0) → NoneTold result) }
+    ensures { taken result ≡ skim (mantissas_of baps.now shape) src.now at.0 limit.0 }
 {
-    let n = least(shape.nfchans as u16, 5);
     let mut t = Taking {
-        number: 0,
         place: at,
         tags: 0,
         groups: Groups {
@@ -189,16 +103,21 @@ pub fn mantissas(
         },
         bits: [0; 7],
     };
+    let n = shape.nfchans.min(5);
     let mut got = false;
-    let mut ch: u16 = 0;
-    while ch < n {
-        let slot = ch as u8;
-        t = visit(src, baps, memo, shape, true, slot, t, limit);
-        let c = coupled(shape, slot);
-        t = visit(src, baps, memo, shape, first(c, got), CPL, t, limit);
-        got = either(got, c);
-        ch += 1;
+    for ch in 0..n {
+        t.visit(src, baps, memo, shape, ch, limit)?;
+        if coupled(shape, ch) && !got {
+            t.visit(src, baps, memo, shape, CPL, limit)?;
+            got = true;
+        }
     }
-    t = visit(src, baps, memo, shape, shape.lfeon, LFE, t, limit);
-    ended(t)
+    if shape.lfeon {
+        t.visit(src, baps, memo, shape, LFE, limit)?;
+    }
+    Ok(Taken {
+        place: t.place,
+        tags: t.tags,
+        bits: t.bits,
+    })
 }

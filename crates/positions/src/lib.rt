@@ -3,19 +3,15 @@
 
 ghost use Rattle.std.specs.Prelude.{◌≡◌, cond, ◌+◌, ◌-◌, ◌*◌, ◌≤◌, min, eqb, leb, ltb, length};
 ghost use Rattle.positions.specs.Passes.{Passes};
+ghost use Rattle.refusals.specs.declared.Refusal.TheVariants.{NoPositionLeft, AllowanceUsedUp};
 
-pub fn less(a: usize, b: usize) -> usize
-    ensures { result ≡ a - b }
-{
-    if b < a { a - b } else { 0 }
-}
+use refusals::Refusal;
 
 // How many positions from a start on lie before an end, at most so many.
 pub fn positions(start: usize, end: usize, most: usize) -> usize
     ensures { result ≡ min most (end - start) }
 {
-    let left = less(end, start);
-    if left < most { left } else { most }
+    most.min(end.saturating_sub(start))
 }
 
 // Whether two bytes are the sync word.
@@ -30,14 +26,12 @@ pub fn candidate(capture: &[u8], from: usize, last: usize) -> usize
     requires { (from ≤ last) × (last + 6 ≤ length capture.now) }
     ensures { Passes capture.now from last result }
 {
-    let mut p = from;
-    while p < last {
+    for p in from..last {
         if sync_word(capture[p], capture[p + 1]) {
             return p;
         }
-        p += 1;
     }
-    p
+    last
 }
 
 // How far the sync word is looked for: where there is no room for a record, the reading at the first position ends the search.
@@ -48,11 +42,15 @@ pub fn furthest(room: usize, from: usize, last: usize) -> usize
     if room == 0 { from } else { last }
 }
 
-// 44 where as many positions are allowed as there are, so that none is left; else 45, the allowance is used up.
-pub fn none_number(left: usize, most: usize) -> u8
-    ensures { result ≡ cond (leb left most) 44 45 }
+// No position is left where as many are allowed as there are; else the allowance is used up.
+pub fn none_left(left: usize, most: usize) -> Refusal
+    ensures { result ≡ cond (leb left most) NoPositionLeft AllowanceUsedUp }
 {
-    if left <= most { 44 } else { 45 }
+    if left <= most {
+        Refusal::NoPositionLeft
+    } else {
+        Refusal::AllowanceUsedUp
+    }
 }
 
 // How many records the last of some readings has: none where it is one of those behind the first `whole`.

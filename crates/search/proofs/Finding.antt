@@ -7,7 +7,7 @@ use native.Mathlib.Omega.{arith}
 use native.Mathlib.Decide.{dec_lt}
 use native.Mathlib.Nat.{add-zero, add-suc}
 use native.Mathlib.Numerals.{add-one}
-use lib.Dec.{ltb}
+use lib.Dec.{leb, ltb}
 use lib.ListN.{length, length-drop, drop}
 use borrow.Author.Tests.{lt-ltb, le-ltb}
 use Rattle.bits.specs.Bits.{bits_at}
@@ -24,6 +24,9 @@ use Rattle.eac3.specs.Called.{answered, Called}
 use Rattle.search.specs.declared.Found.{Found}
 use Rattle.search.specs.Find.{ends, ends_by, none_number, not_found, room_after, reading, count_after, passed, tries, found_in, First, NoneFound, Searched}
 use Rattle.positions.specs.Passes.{Synced, Passes}
+use Rattle.refusals.specs.Refusals.{number_of}
+use Rattle.refusals.specs.declared.Refusal.{Refusal}
+use Rattle.refusals.specs.declared.Refusal.TheVariants.{NoPositionLeft, AllowanceUsedUp}
 use Rattle.search.proofs.Readings.{short, unsynced, over}
 use Rattle.search.proofs.Passing.{answer-ends, none-ends, room-size, passed-more, first-is, at_first, here_found, none_found, found_here, found_none, first-words, none-words}
 
@@ -273,6 +276,14 @@ module _ {s : List ℕ} {m : Room} {start l whole n count far at : ℕ} (most : 
 
 pub number_is : (most : ℕ) {x left number : ℕ} → left ≡ x → number ≡ none_number left most → number ≡ none_number x most
 number_is most e en = en ∙ ap (λ (n : ℕ). none_number n most) e
+
+-- the number of the refusal where no position is left, or the allowance is used up
+pub numbered : (left most : ℕ) {r : Refusal} {number : ℕ} → r ≡ cond (leb left most) NoPositionLeft AllowanceUsedUp → number ≡ number_of r → number ≡ none_number left most
+numbered left most {r} {number} e f = f ∙ ap number_of e ∙ go (leb left most)
+  where
+    go : (b : Bool) → number_of (cond b NoPositionLeft AllowanceUsedUp) ≡ cond b 44 45
+    go true = refl
+    go false = refl
 
 -- the loop is over
 pub turn-none : {s : List ℕ} {m : Room} {start l whole t n count : ℕ} {now : Room} (most : ℕ) → Turn s m start whole n count now → l ≡ length s - 5 → whole ≡ min most (l - start)

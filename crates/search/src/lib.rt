@@ -7,7 +7,7 @@ ghost use Rattle.search.specs.Find.{ends_by, not_found, Searched};
 
 use answer::{Answer, Verdict, count_of, refusal};
 use bits::BitPlace;
-use positions::{candidate, furthest, last_count, less, none_number, positions};
+use positions::{candidate, furthest, last_count, none_left, positions};
 use syntax::{halted, least};
 
 // What a search gives: the answer of the reading that ended it, its position, and how many positions were tried. Where
@@ -67,7 +67,7 @@ pub fn find(
     );
     let tries = positions(start, capture.len(), most);
     // those with six bytes or more from there on; the reader refuses the others without a record
-    let whole = positions(start, less(capture.len(), 5), most);
+    let whole = positions(start, capture.len().saturating_sub(5), most);
     let mut tried: usize = 0;
     let mut count: usize = 0;
     while tried < whole {
@@ -94,6 +94,6 @@ pub fn find(
         }
         count = count_of(verdict, read.frame);
     }
-    let number = none_number(less(capture.len(), start), most);
-    none_found(number, last_count(whole, tries, count), tries)
+    let none = none_left(capture.len().saturating_sub(start), most);
+    none_found(none.number(), last_count(whole, tries, count), tries)
 }

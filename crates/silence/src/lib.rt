@@ -12,22 +12,13 @@ fn no_offset(used: bool, fsnroffst: u8) -> bool
     !used || fsnroffst == 0
 }
 
-fn both(a: bool, b: bool) -> bool
-    ensures { result ≡ a && b }
-{
-    a && b
-}
-
 // Whether the coarse offset and the fine offsets of all slots in use are 0.
 pub fn silent(csnroffst: u8, fsnroffst: [u8; 7], shape: Shape) -> bool
     ensures { result ≡ silent_by csnroffst fsnroffst shape }
 {
     let mut all = csnroffst == 0;
-    let mut slot: u8 = 0;
-    while slot < 7 {
-        let i = slot as usize;
-        all = both(all, no_offset(used(shape, slot), fsnroffst[i]));
-        slot += 1;
+    for slot in 0..7 {
+        all &= no_offset(used(shape, slot), fsnroffst[slot as usize]);
     }
     all
 }

@@ -3,18 +3,19 @@ use mathlib.Core.Path.{◌≡◌, refl, sym, ◌∙◌}
 use mathlib.Core.Bool.{Bool, true, false, cond}
 use mathlib.Core.List.{List, []}
 use Prim.Native.Nat.{ℕ, ◌+◌, ◌-◌}
-use native.Mathlib.Omega.{arith}
-use native.Mathlib.Decide.{ℕ_discrete}
 use lib.Dec.{leb, ltb}
-use borrow.Author.Tests.{ltb-true, ltb-false, le-leb, lt-leb, eq-eqb, ne_eqb}
+use borrow.Author.Tests.{ltb-true, ltb-false, le-leb, lt-leb}
+use Rattle.std.specs.Prelude.{Result as Ended, Ok, Err, IfOk}
+use Rattle.std.specs.Result.{IsErrAnd}
+use Rattle.std.proofs.lemmas.Result.{err_from_is_err_and}
 use Rattle.bits.specs.Bits.{bits_at}
-use Rattle.bits.specs.declared.BitPlace.{BitPlace}
+use Rattle.refusals.specs.declared.Refused.{Refused}
+use Rattle.refusals.specs.declared.Refusal.TheVariants.{Truncated}
 use Rattle.reading.specs.Tree.{Skim, stop, fail, at, take, ◌>>-◌}
 use Rattle.reading.specs.Run.{Result, accepted, refused, Outcome, out, skim}
 use Rattle.skim.specs.Counted.{counted, counting}
-use Rattle.skim.specs.Outcomes.{outcome, look_of}
-use Rattle.skim.specs.declared.Look.{Look}
-use Rattle.skim.specs.declared.Look.TheVariants.{Past, Found}
+use Rattle.skim.specs.Outcomes.{refused_at, outcome, look_of}
+use Rattle.skim.specs.declared.Seen.{Seen}
 
 module _ {A : Type 0} (s : List ℕ) (p l : ℕ) where
   -- bits that pass the end, and bits that do not
@@ -35,24 +36,28 @@ module _ {A : Type 0} (s : List ℕ) (p l : ℕ) where
   skim-fail n = refl
 
 -- what a look at bits tells
-found-is : (t : Bool) (v v' : ℕ) (q q' : BitPlace) → cond t Past (Found v q) ≡ Found v' q' → (t ≡ false) × (v ≡ v') × (q ≡ q')
-found-is true v v' q q' e = let z : ◌≡◌ {A = ℕ} 0 1 = cc in absurd (let w : ⊥ = omega arith in w)
-found-is false v v' q q' e = (refl, cc, cc)
+module _ {A : Type 0} (s : List ℕ) (p w l : ℕ) (k : ℕ → Skim A) where
+  abbrev short : Refused
+  short = record { refusal = Truncated; place = record { 0 = p } }
 
-past_is : (t : Bool) (v : ℕ) (q : BitPlace) → cond t Past (Found v q) ≡ Past → t ≡ true
-past_is true v q e = refl
-past_is false v q e = let z : ◌≡◌ {A = ℕ} 0 1 = cc in absurd (let w : ⊥ = omega arith in w)
+  abbrev seen : Seen
+  seen = record { value = bits_at s p w; next = record { 0 = p + w } }
 
-module _ {A : Type 0} (s : List ℕ) (p w l : ℕ) (k : ℕ → Skim A) (r : Look) (e : r ≡ look_of s p w l) where
-  pub look-past : r ≡ Past → skim (take w k) s p l ≡ out (refused 8) p []
+  pub look-past : (e : Refused) → Err e ≡ look_of s p w l → refused_at e ≡ skim (take w k) s p l
   unfolding look_of
-  look-past f = skim-past s p l w k (past_is (ltb l (p + w)) (bits_at s p w) (record { 0 = p + w }) (sym e ∙ f))
+  look-past e q = go (ltb l (p + w)) refl q
+    where
+      go : (t : Bool) → ltb l (p + w) ≡ t → Err e ≡ cond t (Err short) (Ok seen) → refused_at e ≡ skim (take w k) s p l
+      go true h q = let z : e ≡ short = cc in rw z (sym (skim-past s p l w k h))
+      go false h q = cc
 
-  pub look-on : (v : ℕ) (q : BitPlace) → r ≡ Found v q → skim (take w k) s p l ≡ skim (k v) s q.0 l
+  pub look-on : (x : Seen) → Ok x ≡ look_of s p w l → skim (take w k) s p l ≡ skim (k x.value) s x.next.0 l
   unfolding look_of
-  look-on v q f =
-      let h = found-is (ltb l (p + w)) (bits_at s p w) v (record { 0 = p + w }) q (sym e ∙ f) in
-      skim-on s p l w k h.0 ∙ rw (h.1, ← h.2)
+  look-on x q = go (ltb l (p + w)) refl q
+    where
+      go : (t : Bool) → ltb l (p + w) ≡ t → Ok x ≡ cond t (Err short) (Ok seen) → skim (take w k) s p l ≡ skim (k x.value) s x.next.0 l
+      go true h q = cc
+      go false h q = let z : x ≡ seen = cc in rw z (skim-on s p l w k h)
 
 -- one skim after another: on where the first accepts, and refused where it refuses
 module _ {A B : Type 0} (f : A → Skim B) (s : List ℕ) (l : ℕ) where
@@ -73,21 +78,26 @@ module _ {A B : Type 0} (f : A → Skim B) (s : List ℕ) (l : ℕ) where
       go h true = h
       go h false = refl
 
-  module _ (x : Skim A) (p number q : ℕ) (a : A) (e : outcome number a q ≡ skim x s p l) where
-    pub bind-on : number ≡ 0 → skim (x >>- f) s p l ≡ skim (f a) s q l
+  module _ (x : Skim A) (p q : ℕ) where
+    pub bind-on : (a : A) → out (accepted a) q [] ≡ skim x s p l → skim (x >>- f) s p l ≡ skim (f a) s q l
     unfolding ok
-    bind-on h = bound x p ∙ rw (← e, eq-eqb number 0 h)
+    bind-on a e = bound x p ∙ rw (← e)
 
-    pub bind-off : (number ≡ 0 → ⊥) → skim (x >>- f) s p l ≡ out (refused number) q []
+    pub bind-off : (n : ℕ) → out (refused n) q [] ≡ skim x s p l → skim (x >>- f) s p l ≡ out (refused n) q []
     unfolding ok
-    bind-off h = bound x p ∙ rw (← e, ne_eqb number 0 h)
+    bind-off n e = bound x p ∙ rw (← e)
 
 -- a walk with the bits that it took
-module _ {A : Type 0} (x : Skim A) (s : List ℕ) (p l : ℕ) where
-  pub counted-on : (n q : ℕ) (a : A) → outcome n a q ≡ skim x s p l → outcome n (counted a (q - p)) q ≡ skim (counting x) s p l
+module _ {A : Type 0} (x : Skim A) (s : List ℕ) (p l q : ℕ) where
+  pub counted-on : (a : A) → out (accepted a) q [] ≡ skim x s p l → out (accepted (counted a (q - p))) q [] ≡ skim (counting x) s p l
   unfolding counting skim
-  counted-on n q a e = go (ℕ_discrete n 0)
-    where
-      go : Dec (n ≡ 0) → outcome n (counted a (q - p)) q ≡ skim (x >>- (λ a. at (λ q. stop (counted a (q - p))))) s p l
-      go (yes h) = rw (eq-eqb n 0 h) (sym (bind-on (λ a. at (λ q. stop (counted a (q - p)))) s l x p n q a e h))
-      go (no h) = rw (ne_eqb n 0 h) (sym (bind-off (λ a. at (λ q. stop (counted a (q - p)))) s l x p n q a e h))
+  counted-on a e = sym (bind-on (λ a. at (λ q. stop (counted a (q - p)))) s l x p q a e)
+
+  pub counted-off : (n : ℕ) → out (refused n) q [] ≡ skim x s p l → out (refused n) q [] ≡ skim (counting x) s p l
+  unfolding counting skim
+  counted-off n e = sym (bind-off (λ a. at (λ q. stop (counted a (q - p)))) s l x p q n e)
+
+-- a refusal that `?` hands on
+pub handed_on : {A B : Type 0} (told : A → Outcome B) (P : A → Type 0) (r : Ended A Refused) (e : Refused) (o : Outcome B)
+    → IsErrAnd r (λ x. x ≡ e) → refused_at e ≡ o → (outcome told r ≡ o) × IfOk r P
+handed_on told P r e o i f = let p = err_from_is_err_and r i in rw (p.1, p.2) (f, tt)

@@ -5,6 +5,8 @@
 ghost use Rattle.std.specs.Prelude.{◌≡◌, false, ◌<◌, ◌≤◌, min, get_or};
 ghost use Rattle.slots.specs.Slots.{range_of, used_of, read_of, requested_of};
 
+// Stays: numbers and no enum, since slots 0 to 4 are channel numbers: arrays are indexed by them, and the C interface
+// of the blocks and the cells of a reading carry them.
 pub const CPL: u8 = 5;
 
 pub const LFE: u8 = 6;
@@ -31,42 +33,33 @@ pub struct Range {
     pub end: u16,
 }
 
-pub fn least(a: u16, b: u16) -> u16
-    ensures { result ≡ min a b }
-{
-    if a < b { a } else { b }
-}
-
 // The bins of a slot.
+#[tactic(auto, unfolding(crate::specs::Slots::range_of))]
 pub fn range_at(shape: Shape, slot: u8) -> Range
     requires { slot < 7 }
     ensures { (result ≡ range_of shape slot) × (result.end ≤ 253) }
 {
-    if slot == CPL {
-        return Range {
+    match slot {
+        CPL => Range {
             start: shape.cplstrt,
-            end: least(shape.cplend, 253),
-        };
-    }
-    if slot == LFE {
-        return Range { start: 0, end: 7 };
-    }
-    let i = slot as usize;
-    Range {
-        start: 0,
-        end: least(shape.endmant[i], 253),
+            end: shape.cplend.min(253),
+        },
+        LFE => Range { start: 0, end: 7 },
+        _ => Range {
+            start: 0,
+            end: shape.endmant[slot as usize].min(253),
+        },
     }
 }
 
 // Whether a slot of the adaptive hybrid transform is read already.
+#[tactic(auto, unfolding(crate::specs::Slots::read_of))]
 pub fn read(shape: Shape, slot: u8) -> bool
     requires { slot < 7 }
     ensures { result ≡ read_of shape slot }
 {
     let i = slot as usize;
-    let a = shape.ahtinu[i];
-    let b = shape.ahtread[i];
-    a && b
+    shape.ahtinu[i] && shape.ahtread[i]
 }
 
 // Whether a slot has the adaptive hybrid transform.
@@ -74,30 +67,26 @@ pub fn hybrid(shape: Shape, slot: u8) -> bool
     requires { slot < 7 }
     ensures { result ≡ get_or shape.ahtinu slot false }
 {
-    let i = slot as usize;
-    shape.ahtinu[i]
+    shape.ahtinu[slot as usize]
 }
 
 // Whether the block has the slot.
+#[tactic(auto, unfolding(crate::specs::Slots::used_of))]
 pub fn used(shape: Shape, slot: u8) -> bool
     ensures { result ≡ used_of shape slot }
 {
-    if slot == CPL {
-        return shape.cplinu;
+    match slot {
+        CPL => shape.cplinu,
+        LFE => shape.lfeon,
+        _ => slot < shape.nfchans.min(5),
     }
-    if slot == LFE {
-        return shape.lfeon;
-    }
-    (slot as u16) < least(shape.nfchans as u16, 5)
 }
 
 // Whether the pointers of a slot are asked for.
+#[tactic(auto, unfolding(crate::specs::Slots::requested_of))]
 pub fn requested(shape: Shape, slot: u8) -> bool
     requires { slot < 7 }
     ensures { result ≡ requested_of shape slot }
 {
-    if !used(shape, slot) {
-        return false;
-    }
-    !read(shape, slot)
+    used(shape, slot) && !read(shape, slot)
 }

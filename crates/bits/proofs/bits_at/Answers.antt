@@ -2,11 +2,8 @@
 use mathlib.Core.Path.{◌∙◌}
 use native.Mathlib.Omega.{arith}
 use Rattle.bits.proofs.BitLaws.{get_in}
-use Rattle.bits.proofs.Loads.{shifted, shifted-small}
+use Rattle.bits.proofs.Loads.{shifted}
 use Rattle.bits.proofs.bits_at.Goals as goal
-
-pub overflow_cast-result-then-first-src-2 : goal.overflow_cast-result-then-first-src-2
-overflow_cast-result-then-first-src-2 c = record { fits = shifted-small c.args.src.now c.args.at.0 c.args.width _ c.requires.0 c.four_bytes-v.ensures }
 
 pub returns-then-first-src : goal.returns-then-first-src
 returns-then-first-src c = shifted c.args.src.now c.args.at.0 c.args.width _ c.requires.0 c.four_bytes-v.ensures

@@ -5,7 +5,4 @@ use Rattle.hybrid.specs.Hybrid.{premantissas_of}
 use Rattle.hybrid.proofs.premantissas.Given as goal
 
 abbrev pub invariant-loop-i : goal.invariant-loop-i
-invariant-loop-i l = (l.i ≤ 6) × (l.tags ≤ l.i) × (skim (premantissas_of l.m l.gain 6 0) l.src l.initial.p.0 l.limit.0 ≡ skim (premantissas_of l.m l.gain (6 - l.i) l.tags) l.src l.p.0 l.limit.0)
-
-abbrev pub decreases-loop-i : goal.decreases-loop-i
-decreases-loop-i l = 6 - l.i
+invariant-loop-i l = (l.tags ≤ l.i) × (skim (premantissas_of l.m l.gain 6 0) l.src l.initial.place.0 l.limit.0 ≡ skim (premantissas_of l.m l.gain (6 - l.i) l.tags) l.src l.place.0 l.limit.0)

@@ -1,15 +1,15 @@
-use mathlib.Core.List.{[]}
-use Rattle.hybrid.proofs.HybridLaws.{gained-none, gains-none, gains-one, gains-two, gains-three, gains-same}
+use native.Mathlib.Omega.{arith}
+use Rattle.hybrid.proofs.HybridLaws.{gains-none, gains-one, gains-two, gains-three, gains-same}
 use Rattle.hybrid.proofs.read_gains.Goals as goal
 
-pub returns-then-mode-eq0 : goal.returns-then-mode-eq0
-returns-then-mode-eq0 c = record { gains = []; tells = gains-none _ _ _ _ _ c.if-mode-eq0.true; stored = gained-none }
+pub returns-in-0 : goal.returns-in-0
+returns-in-0 c = gains-none _ _ _ _ c.told-gain c.requires.2 _ _ c.in-0.is
 
-pub returns-then-mode-eq1 : goal.returns-then-mode-eq1
-returns-then-mode-eq1 c = gains-same _ _ _ (gains-one _ _ _ _ _ c.if-mode-eq0.false c.if-mode-eq1.true) c.singles.ensures
+pub returns-in-1 : goal.returns-in-1
+returns-in-1 c = gains-same _ _ _ _ (gains-one _ _ _ _ _ c.in-1.is) c.singles.ensures
 
-pub returns-then-mode-eq2 : goal.returns-then-mode-eq2
-returns-then-mode-eq2 c = gains-same _ _ _ (gains-two _ _ _ _ _ c.if-mode-eq0.false c.if-mode-eq1.false c.if-mode-eq2.true) c.singles-then-mode-eq2.ensures
+pub returns-in-2 : goal.returns-in-2
+returns-in-2 c = gains-same _ _ _ _ (gains-two _ _ _ _ _ c.in-2.is) c.singles-in-2.ensures
 
-pub returns : goal.returns
-returns c = gains-same _ _ _ (gains-three _ _ _ _ _ c.if-mode-eq0.false c.if-mode-eq1.false c.if-mode-eq2.false) c.triples.ensures
+pub returns-in_default : goal.returns-in_default
+returns-in_default c = gains-same _ _ _ _ (gains-three _ _ _ _ _ (λ h. omega arith) (λ h. omega arith) (λ h. omega arith)) c.triples.ensures

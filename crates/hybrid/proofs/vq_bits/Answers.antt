@@ -1,16 +1,16 @@
 use native.Mathlib.Omega.{arith}
-use borrow.Author.Tests.{eq-eqb, ne_eqb, lt-ltb, le-ltb}
+use Rattle.std.proofs.lemmas.Bool.Decides.{nat_tests}
 use Rattle.skim.proofs.BitTables.{vq-is}
 use Rattle.hybrid.proofs.vq_bits.Goals as goal
 
-pub returns-then-hebap-ge8 : goal.returns-then-hebap-ge8
-returns-then-hebap-ge8 c = (rw (vq-is _, le-ltb _ 8 c.if-hebap-ge8.true), omega arith)
+pub returns-in-1-to-4 : goal.returns-in-1-to-4
+returns-in-1-to-4 c = rw (vq-is c.args.hebap) (grind (arith, nat_tests))
 
-pub returns-then-hebap-eq0 : goal.returns-then-hebap-eq0
-returns-then-hebap-eq0 c = (rw (vq-is _, lt-ltb _ 8 c.if-hebap-ge8.false, eq-eqb _ _ c.if-hebap-eq0.true), omega arith)
+pub returns-in-5-to-7 : goal.returns-in-5-to-7
+returns-in-5-to-7 c = rw (vq-is c.args.hebap) (grind (arith, nat_tests))
 
-pub returns-then-hebap-lt5 : goal.returns-then-hebap-lt5
-returns-then-hebap-lt5 c = (rw (vq-is _, lt-ltb _ 8 c.if-hebap-ge8.false, ne_eqb _ _ c.if-hebap-eq0.false, lt-ltb _ 5 c.if-hebap-lt5.true), omega arith)
+pub returns-in_default : goal.returns-in_default
+returns-in_default c = rw (vq-is c.args.hebap) (grind (arith, nat_tests))
 
-pub returns-else-hebap-lt5 : goal.returns-else-hebap-lt5
-returns-else-hebap-lt5 c = (rw (vq-is _, lt-ltb _ 8 c.if-hebap-ge8.false, ne_eqb _ _ c.if-hebap-eq0.false, le-ltb _ 5 c.if-hebap-lt5.false), omega arith)
+pub returns-in_default-2 : goal.returns-in_default-2
+returns-in_default-2 c = rw (vq-is c.args.hebap) (grind (arith, nat_tests))

@@ -3,7 +3,7 @@ use Rattle.inputs.proofs.Takes.{ends, bits-past, bits-found}
 use Rattle.inputs.proofs.element.Goals as goal
 
 pub returns-then-past : goal.returns-then-past
-returns-then-past c = bits-past _ _ _ _ c.past.ensures.0 _ c.if-past.true _ c.missed.ensures
+returns-then-past c = bits-past _ _ _ _ c.past.ensures.0 _ c.if-past.true
 
 pub bits_at-value-requires : goal.bits_at-value-requires
 bits_at-value-requires c = (c.requires.0, omega (arith, ends c.args.limit.0 c.args.at.0 c.args.width _ c.past.ensures.0 c.if-past.false, c.requires.1))

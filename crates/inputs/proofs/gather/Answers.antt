@@ -12,7 +12,7 @@ pub tell-requires : goal.tell-requires
 tell-requires c = omega (arith, c.keep_of-k.ensures.1)
 
 pub returns-then-w-lt8 : goal.returns-then-w-lt8
-returns-then-w-lt8 c = gathers-mantissas _ _ _ _ _ _ _ c.requires.right _ _ _ c.requires.kind c.if-w-lt8.true c.mantissas_in-t.result (c.mantissas_in-t.ensures _) _ c.mantissas-l.ensures c.keep-c.result _ _ c.keep-c.ensures _ c.keep_of-k.ensures.0 _ c.tell.ensures
+returns-then-w-lt8 c = gathers-mantissas _ _ _ _ _ _ _ c.requires.right _ _ _ c.requires.kind c.if-w-lt8.true c.mantissas_in-t.result (c.mantissas_in-t.ensures _) _ c.mantissas-l.ensures c.keep-c.result _ _ c.keep-c.ensures _ c.keep_of-k.ensures.0 _ (rw (← c.bits_taken.ensures) c.tell.ensures)
 
 pub stale-requires : goal.stale-requires
 stale-requires c = c.requires.right.memo.tallies.size

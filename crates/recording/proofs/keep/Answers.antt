@@ -6,11 +6,11 @@ use Rattle.syntax.proofs.Rooms.{inside}
 use Rattle.recording.proofs.Keeping.{keeps-missed, keeps-full, keeps-made}
 use Rattle.recording.proofs.keep.Goals as goal
 
-pub returns-then-number-ne0 : goal.returns-then-number-ne0
-returns-then-number-ne0 c = keeps-missed _ _ _ _ _ c.args.l c.if-number-ne0.true c.halted.result c.halted.ensures
+pub returns-in-Err : goal.returns-in-Err
+returns-in-Err c = keeps-missed _ _ _ _ _ _ _ c.in-Err.is c.halted.result (rw c.number.ensures at c.halted.ensures)
 
 pub returns-then-most-count : goal.returns-then-most-count
-returns-then-most-count c = keeps-full _ _ _ _ _ c.args.l c.if-number-ne0.false _ c.requires (omega (arith, c.if-most-count.true)) c.halted-then-most-count.result c.halted-then-most-count.ensures
+returns-then-most-count c = keeps-full _ _ _ _ _ _ _ c.in-Ok.is _ c.requires (omega (arith, c.if-most-count.true)) c.halted-then-most-count.result (rw c.number-then-most-count.ensures at c.halted-then-most-count.ensures)
 
 pub bounds-names-count : goal.bounds-names-count
 bounds-names-count c = (inside c.requires c.args.count (omega (arith, c.if-most-count.false))).names
@@ -43,7 +43,7 @@ pub bounds-values-count : goal.bounds-values-count
 bounds-values-count c = (inside c.requires c.args.count (omega (arith, c.if-most-count.false))).values
 
 pub returns : goal.returns
-returns c = keeps-made _ _ _ _ _ c.args.l c.if-number-ne0.false _ c.requires (omega (arith, c.if-most-count.false)) _ c.name_of.ensures
+returns c = keeps-made _ _ _ _ _ _ _ c.in-Ok.is _ c.requires (omega (arith, c.if-most-count.false)) _ c.name_of.ensures
     _ c.cell_of.ensures _ (to_z-of_z {w = w8} {z = c.block_part.result} (record { sfits = c.block_part.type_inv }) ∙ c.block_part.ensures)
     _ c.index_of.ensures _ (to_z-of_z {w = w16} {z = c.index_part.result} (record { sfits = c.index_part.type_inv }) ∙ c.index_part.ensures)
     _ c.keep_of-k.ensures.0 _ c.put.ensures c.going.result c.going.ensures

@@ -4,4 +4,4 @@ use Rattle.derivations.proofs.block_mantissas.mantissas_in.Goals as goal
 
 pub returns : goal.returns
 unfolding mantissas_in
-returns c = λ e. c.mantissas.ensures.0 ∙ rw c.shape_of.ensures
+returns c = λ e. c.mantissas.ensures ∙ rw c.shape_of.ensures

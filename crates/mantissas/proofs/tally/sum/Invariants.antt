@@ -5,6 +5,3 @@ use Rattle.mantissas.proofs.tally.sum.Given as goal
 
 abbrev pub invariant-loop-i : goal.invariant-loop-i
 invariant-loop-i l = l.x + packed (tally_of l.baps l.slot l.i (l.end - l.i)) ≡ packed (tally_of l.baps l.slot l.start (l.end - l.start))
-
-abbrev pub decreases-loop-i : goal.decreases-loop-i
-decreases-loop-i l = l.end - l.i

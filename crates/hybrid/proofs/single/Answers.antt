@@ -1,8 +1,0 @@
-use borrow.Author.Tests.{eq-eqb, ne_eqb}
-use Rattle.hybrid.proofs.single.Goals as goal
-
-pub returns-then-v-eq1 : goal.returns-then-v-eq1
-returns-then-v-eq1 c = rw (eq-eqb _ _ c.if-v-eq1.true)
-
-pub returns-else-v-eq1 : goal.returns-else-v-eq1
-returns-else-v-eq1 c = rw (ne_eqb _ _ c.if-v-eq1.false)
