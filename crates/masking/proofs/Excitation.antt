@@ -12,7 +12,7 @@ use Rattle.alloc.specs.declared.Leaks.{Leaks}
 use Rattle.alloc.specs.declared.Passed.{Passed}
 use Rattle.alloc.specs.Levels.{next_low_l, begin_l, fast_l, slow_l, low_l, excite_l, excite_of_l, NextL}
 use Rattle.alloc.specs.Premises.{Written, Passing, Excites, Leaking}
-use Rattle.alloc.proofs.Lists.{picked_low, written_low, written_none, written-more, written-join}
+use Rattle.alloc.proofs.Lists.{picked_low, written_low, written-more, written-join}
 
 -- no band is passed yet
 pub passing-none : (bnd : List ℕ) (g : Gains) (l : Leaks) (first last : ℕ) (s : Passed) → s.fast ≡ l.fast → s.slow ≡ l.slow → s.low ≡ 0
@@ -62,9 +62,6 @@ module _ (bnd : List ℕ) (g : Gains) (l : Leaks) (first last b : ℕ) (s : Pass
       record { from = omega (arith, so_far.from); fast = rw e fast'; slow = rw e slow'; low = rw e low' }
 
 module _ (bnd : List ℕ) (g : Gains) (first last : ℕ) where
-  pub excites-none : (lo : ℕ) (s : Passed) (old : List ℕ) → Excites bnd g first last lo lo s s old old
-  excites-none lo s old = record { up = omega arith; on = λ l p. p; made = λ l p. written_none _ lo old }
-
   pub excites-more : (lo b : ℕ) (s t t' : Passed) (old new : List ℕ) (e : ℕ)
       → Excites bnd g first last lo b s t old new → NextL bnd g t first last (begin_l bnd first last) b t' → b < length new
       → e ≡ excite_of_l t'.fast t'.slow t'.low (begin_l bnd first last) b
