@@ -1,15 +1,17 @@
 -- The excitation, from one band to the next.
 -- Assumes nothing.
 use mathlib.Core.Path.{◌≡◌, refl, ◌∙◌}
+use mathlib.Core.Bool.{◌&&◌}
 use mathlib.Core.List.{List}
 use Prim.Native.Nat.{ℕ, zero, suc, ◌+◌, ◌-◌, ◌<◌, ◌≤◌}
 use native.Mathlib.Omega.{arith}
 use borrow.Author.Tests.{le-ltb, ne_eqb}
 use lib.ListN.{length, get_or, set, replicate}
-use lib.Dec.{ltb}
+use lib.Dec.{ltb, eqb}
 use Rattle.alloc.specs.declared.Gains.{Gains}
 use Rattle.alloc.specs.declared.Leaks.{Leaks}
 use Rattle.alloc.specs.declared.Passed.{Passed}
+use Rattle.alloc.specs.Allocation.{lfe_last}
 use Rattle.alloc.specs.Levels.{next_low_l, begin_l, fast_l, slow_l, low_l, excite_l, excite_of_l, NextL}
 use Rattle.alloc.specs.Premises.{Written, Passing, Excites, Leaking}
 use Rattle.alloc.proofs.Lists.{picked_low, written_low, written-more, written-join}
@@ -26,6 +28,19 @@ passing-none bnd g l first last s fast slow low =
 pub low-none : (bnd : List ℕ) (first last low b : ℕ) → (first ≡ 0 → 22 ≤ b) → next_low_l bnd first last low b ≡ 0
 low-none bnd zero last low b n = simp (le-ltb b 22 (n refl))
 low-none bnd (suc first) last low b n = simp (ne_eqb (suc first) 0 (let z : suc first ≡ 0 → ⊥ = omega arith in z))
+
+-- lowcomp is at most 384
+pub low-most : (bnd : List ℕ) (first last low b : ℕ) → low ≤ 384 → next_low_l bnd first last low b ≤ 384
+low-most bnd first last low b h =
+    let r = picked_low (eqb first 0 && ltb b 22) _ 0 385
+    (picked_low (lfe_last last b) low _ 385 (omega arith)
+    (picked_low (ltb b 20) _ (low - 128) 385
+    (picked_low (eqb (get_or bnd b 0 + 256) (get_or bnd (b + 1) 0)) _ _ 385
+    (picked_low (ltb b 7) 384 320 385 (omega arith) (omega arith))
+    (picked_low (ltb (get_or bnd (b + 1) 0) (get_or bnd b 0)) (low - 64) low 385 (omega arith) (omega arith)))
+    (omega arith)))
+    (omega arith) in
+    omega arith
 
 -- one band on
 module _ (bnd : List ℕ) (g : Gains) (l : Leaks) (first last b : ℕ) (s : Passed) (s' : Passed)
