@@ -36,12 +36,6 @@ nothing_yet = record { dynrng = none; compr = none; dynrng2 = none; compr2 = non
 abbrev pub gain_name : ℕ → Bool
 gain_name n = n == dynrng || (n == compr || (n == dynrng2 || n == compr2))
 
--- r is the first place from one on, of n, whose record is a gain word; n if there is none
-pub record NextWord (ns : List ℕ) (from n r : ℕ) : Type 0 where
-  pub low : from ≤ r
-  pub high : r ≤ n
-  pub none_before : (i : ℕ) → from ≤ i → i < r → gain_name (slice_index ns i) ≡ false
-
 abbrev pub noted : Extents → ℕ → ℕ → Extents
 noted e name w = record {
   dynrng = cond (name == dynrng) (add_to e.dynrng w) e.dynrng;
