@@ -1,5 +1,5 @@
 -- What the code goes by: the range is found on words. The factor grows with the word as a signed byte (proofs/Ordered.antt).
-use Rattle.std.specs.Prelude.{◌≡◌, ℕ, zero, suc, ◌+◌, ◌%◌, ◌<◌, ◌≤◌, min, max, Bool, false, cond, ◌||◌, List, [], ◌∷◌, ◌==◌, slice_index}
+use Rattle.std.specs.Prelude.{ℕ, zero, suc, ◌+◌, ◌%◌, min, max, Bool, cond, ◌||◌, List, [], ◌∷◌, ◌==◌, slice_index}
 use Rattle.names.specs.Names.{dynrng, compr, dynrng2, compr2}
 use Rattle.gain.specs.declared.Kind.{Kind}
 use Rattle.gain.specs.declared.Range.{Range}

@@ -1,22 +1,20 @@
 -- A byte, a digit or a record more. Assumes nothing.
-use mathlib.Core.Path.{◌≡◌, refl, sym, ap, subst, ◌∙◌}
-use mathlib.Core.Bool.{Bool, true, false, cond}
+use mathlib.Core.Path.{◌≡◌, refl, sym, ap, ◌∙◌}
+use mathlib.Core.Bool.{Bool, true, false}
 use mathlib.Core.List.{List}
 use mathlib.Core.Logic.{by_cases}
-use Rattle.std.specs.Prelude.{bytes_eq, Option, Some, None, is_some, ok_or, MatchOption, ⊤, Result, Ok, Err}
+use Rattle.std.specs.Prelude.{bytes_eq, Option, Some, None, is_some, ok_or, MatchOption, ⊤, Err}
 use Prim.Native.Nat.{ℕ, zero, suc, ◌+◌, ◌-◌, ◌≤◌, ◌<◌}
 use native.Mathlib.Omega.{arith}
 use native.Mathlib.Decide.{ℕ_discrete}
 use Rattle.std.proofs.Common.{zero-add}
 use Rattle.std.proofs.lemmas.List.{get_or-drop, length-drop}
 use native.Mathlib.Numerals.{add-one}
-use lib.Dec.{eqb}
 use lib.ListN.{length, get_or, drop}
 use borrow.Author.Tests.{eq-eqb, ne_eqb, le-leb, lt-leb}
 use Rattle.names.specs.Spelling.{bytes}
-use Rattle.word_items.specs.declared.Unplaced.{Unplaced}
 use Rattle.word_items.specs.declared.Unplaced.TheVariants.{Nowhere, Twice}
-use Rattle.word_items.specs.Items.{last_to, name_of, digit_of, behind, value_to, marks_hex, number_of, is_meant, meant_to, only, place_by, place_of}
+use Rattle.word_items.specs.Items.{last_to, name_of, digit_of, behind, value_to, marks_hex, number_of, is_meant, meant_to, place_of}
 
 module _ (s : List ℕ) (c : ℕ) where
   pub last_none : (n : ℕ) → ((k : ℕ) → k < n → ¬ (get_or s k 0 ≡ c)) → None ≡ last_to s c n

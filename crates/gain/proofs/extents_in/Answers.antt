@@ -7,8 +7,8 @@ pub loop-i-preserved : goal.loop-i-preserved
 loop-i-preserved c =
     let on = AllGoing c.args.names.now c.args.values.now (c.loop-i.i + 1) c.args.count in
     elim c.if-gain_word.branch [
-      then-gain_word w ↦ subst on (sym (w.e-is ∙ w.noted-e.ensures)) (all_go _ _ _ _ _ c.loop-i-test.true c.loop-i.invariant)
-    | else-gain_word w ↦ subst on (sym w.e-is) (all_pass _ _ _ _ _ c.loop-i-test.true (sym c.gain_word.ensures ∙ w.if-gain_word.false) c.loop-i.invariant)
+      | then-gain_word w ↦ subst on (sym (w.e-is ∙ w.noted-e.ensures)) (all_go _ _ _ _ _ c.loop-i-test.true c.loop-i.invariant)
+      | else-gain_word w ↦ subst on (sym w.e-is) (all_pass _ _ _ _ _ c.loop-i-test.true (sym c.gain_word.ensures ∙ w.if-gain_word.false) c.loop-i.invariant)
     ]
 
 pub returns : goal.returns

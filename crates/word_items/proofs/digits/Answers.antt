@@ -1,4 +1,3 @@
-use mathlib.Core.Path.{refl, sym, ◌∙◌}
 use Rattle.word_items.proofs.Folds.{behind-none, value_none, value_on, value_stops}
 use Rattle.word_items.proofs.digits.Goals as goal
 
