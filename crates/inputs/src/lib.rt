@@ -158,10 +158,8 @@ fn tell(cells: &mut [u16; 1024], k: usize, numbers: [u16; 7])
     requires { k ≤ 590839 }
     ensures { cells.new ≡ puts_in cells.old k numbers }
 {
-    let mut i: usize = 0;
-    while i < 7 {
-        put(cells, k + i, numbers[i] as u32);
-        i += 1;
+    for (i, number) in numbers.iter().enumerate() {
+        put(cells, k + i, u32::from(*number));
     }
 }
 

@@ -1,11 +1,7 @@
-use mathlib.Core.Path.{◌≡◌}
-use Prim.Native.Nat.{◌+◌, ◌-◌, ◌≤◌}
-use lib.ListN.{drop}
+-- The numbers from i on are still to be put.
+use Rattle.std.proofs.Common.{◌≡◌, ◌+◌, drop}
 use Rattle.cells.specs.Cells.{puts_in}
 use Rattle.inputs.proofs.tell.Given as goal
 
 abbrev pub invariant-loop-i : goal.invariant-loop-i
-invariant-loop-i l = (l.i ≤ 7) × (puts_in l.initial.cells l.k l.numbers ≡ puts_in l.cells (l.k + l.i) (drop l.i l.numbers))
-
-abbrev pub decreases-loop-i : goal.decreases-loop-i
-decreases-loop-i l = 7 - l.i
+invariant-loop-i l = puts_in l.initial.cells l.k l.fn.numbers ≡ puts_in l.cells (l.k + l.i) (drop l.i l.fn.numbers)
