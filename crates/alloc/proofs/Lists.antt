@@ -5,7 +5,7 @@ use mathlib.Core.Bool.{Bool, true, false, ◌&&◌, cond}
 use mathlib.Core.List.{List}
 use Prim.Native.Nat.{ℕ, zero, suc, ◌+◌, ◌<◌, ◌≤◌, zero-le, max}
 use native.Mathlib.Nat.{add-zero, zero-add, add-suc, suc-add, le_of_suc-le-suc, not-suc-le-zero}
-use native.Mathlib.Decide.{dec_lt, ℕ_discrete}
+use native.Mathlib.Decide.{dec_lt}
 use native.Mathlib.Omega.{arith}
 use borrow.Author.Tests.{lt-ltb, le-ltb, le-leb, lt-leb}
 use lib.Dec.{leb, ltb}
@@ -137,15 +137,6 @@ written-end f lo i hi old new w up most end =
     by k b (yes p) = w.before k p
     by k b (no p) = w.after k (omega arith)
 
--- what holds of each entry of a list, where one is set
-pub each_set : (P : ℕ → ℕ → Type 0) (l : List ℕ) (i v : ℕ) → i < length l → ((k : ℕ) → P k (get_or l k 0)) → P i v
-    → (k : ℕ) → P k (get_or (set l i v) k 0)
-each_set P l i v h all one k = by (ℕ_discrete k i)
-  where
-    by : Dec (k ≡ i) → P k (get_or (set l i v) k 0)
-    by (yes e) = rw (e, get_or-set_same l i v 0 h) one
-    by (no n) = rw (get_or-set_other l i k v 0 n) (all k)
-
 -- a list of one value, of which a range was written
 pub written-list : (f : ℕ → ℕ) (lo hi n d : ℕ) (out : List ℕ) → Written f lo hi (replicate n d) out
     → out ≡ tab (λ k. cond (leb lo k && ltb k hi) (f k) d) 0 n
@@ -166,12 +157,6 @@ module _ (f : ℕ → ℕ) (lo hi n : ℕ) (a b c d : List ℕ) (size : length a
 
   pub written-whole : d ≡ tab (λ k. cond (leb lo k && ltb k hi) (f k) 0) 0 n
   written-whole = tab-of _ n d (three.size ∙ two.size ∙ one.size ∙ size) (λ k h. each k h (dec_lt k lo) (dec_lt k hi))
-
--- zeros throughout
-pub written-zeros : (n : ℕ) (a b : List ℕ) → length a ≡ n → Written (λ k. 0) 0 n a b → b ≡ replicate n 0
-written-zeros n a b size w =
-    ext_get_or 0 b (replicate n 0) (w.size ∙ size ∙ sym (length-replicate n 0))
-    (λ k h. let l = w.size in w.made k (omega arith) (omega arith) ∙ sym (zeros n k))
 
 -- an empty range
 pub ranged-none : (f : ℕ → ℕ) (lo hi n : ℕ) → hi ≤ lo → replicate n 0 ≡ tab (λ k. cond (leb lo k && ltb k hi) (f k) 0) 0 n

@@ -7,8 +7,6 @@ use native.Mathlib.Decide.{dec_lt}
 use native.Mathlib.Nat.{zero-add, mul-add}
 use native.Mathlib.Omega.{arith}
 use lib.Dec.{ltb, leb, eqb, leb→le}
-use mir.Syntax.{w32}
-use mir.Val.{SFits}
 use lib.IntN.{ℤ, pos, negsuc, sub_ℕ, neg_ℤ, nat_abs, ◌+ℤ◌, ◌-ℤ◌, ◌*ℤ◌}
 use lib.Signed.{lt_z, ◌≤ℤ◌}
 use Rattle.alloc.specs.Allocation.{max_z, eq_z, floored, snroffset}
@@ -196,7 +194,3 @@ offset-is c f =
     ∙ ap (λ x. pos 4 *ℤ x) (ap (λ x. sub_ℕ (16 * (c + 0)) (16 * (0 + 15)) +ℤ x) (pos-sub f) ∙ plus (16 * (c + 0)) (16 * (0 + 15)) f 0)
     ∙ times 4 (16 * (c + 0) + f) (16 * (0 + 15) + 0)
     ∙ same (4 * (16 * (c + 0) + f)) (4 * (16 * (0 + 15) + 0)) (64 * c + 4 * f) 960 (omega arith)
-
-pub floor-fits : (z : ℤ) → negsuc 2047 ≤ℤ z → z ≤ℤ pos 752 → SFits w32 z
-floor-fits (pos n) lo hi = let h = leb→le n 752 hi.le in record { sfits = omega arith }
-floor-fits (negsuc n) lo hi = let h = leb→le n 2047 lo.le in record { sfits = omega arith }

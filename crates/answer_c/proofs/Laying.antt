@@ -1,44 +1,45 @@
 -- Numbers written one after another. Assumes nothing.
 use mathlib.Core.Path.{◌≡◌, refl, sym, ap, ap₂, ◌∙◌}
 use mathlib.Core.List.{List, ◌∷◌}
-use Prim.Native.Nat.{ℕ, ◌+◌, ◌*◌}
+use mathlib.Core.Bool.{Bool, true, false}
+use Prim.Native.Nat.{ℕ, zero, suc, ◌+◌, ◌*◌, ◌<◌, ◌≤◌}
 use native.Mathlib.Numerals.{add-one}
-use lib.ListN.{length, length-set, get_or, set}
+use native.Mathlib.Omega.{arith}
+use lib.ListN.{length, get_or, set}
+use lib.Seq.{paste, paste-zero, paste-suc}
+use mir.Val.{bool_byte}
 use Rattle.reading.specs.Run.{Result, accepted, refused}
 use Rattle.reading.specs.Room.{Out}
 use Rattle.cells.specs.Cells.{State}
 use Rattle.answer.specs.declared.Answer.{Answer}
 use Rattle.answer.specs.declared.Frame.{Frame}
 use Rattle.answer.specs.declared.SlotBits.{SlotBits}
-use Rattle.answer_c.specs.Numbers.{written, laid, block_bits, bits_laid, laid_of, frame_numbers}
+use Rattle.answer_c.specs.Numbers.{bit_of, written, laid, block_bits, bits_laid, laid_of, frame_numbers}
 use Rattle.answer_c.specs.Parts.{Bare, refusal_laid}
 use Rattle.answer.specs.Answer.{nothing, answer_by, answer_of, number_of, place_of, count_of}
-
-pub written_none : (m : List ℕ) (k : ℕ) (vs : List ℕ) → m ≡ written m k vs 0
-unfolding written
-written_none m k vs = refl
 
 pub written-more : (m : List ℕ) (k : ℕ) (vs x : List ℕ) (i v : ℕ) → x ≡ written m k vs i → v ≡ get_or vs i 0 → set x (i + k) v ≡ written m k vs (i + 1)
 unfolding written
 written-more m k vs x i v ex ev = rw (add-one i, ex, ev)
 
-pub written_all : (m : List ℕ) (k : ℕ) (vs x : List ℕ) (i n : ℕ) → x ≡ written m k vs i → i ≡ n → x ≡ written m k vs n
-written_all m k vs x i n ex ei = ex ∙ ap (written m k vs) ei
+-- numbers written one after another are pasted
+pub written-pasted : (m : List ℕ) (k : ℕ) (vs : List ℕ) (n : ℕ) → k + n ≤ length m → n ≤ length vs → written m k vs n ≡ paste m k vs n
+unfolding written
+written-pasted m k vs zero g h = paste-zero m k vs
+written-pasted m k vs (suc n) g h =
+    let below : n < length vs = omega arith in
+    let swap : n + k ≡ k + n = omega arith in
+    rw (swap, written-pasted m k vs n (omega arith) (omega arith)) (paste-suc m k vs n 0 (omega arith) below)
 
-pub three-set : (m : List ℕ) (a b c : ℕ) → length (set (set (set m 0 a) 1 b) 2 c) ≡ length m
-three-set m a b c = length-set (set (set m 0 a) 1 b) 2 c ∙ length-set (set m 0 a) 1 b ∙ length-set m 0 a
-
--- the bits of the slots, block by block
-pub bits_none : (m : List ℕ) (ts : List SlotBits) → m ≡ bits_laid m ts 0
+-- the bits of the slots of one block more
+pub bits-more : (m : List ℕ) (ts : List SlotBits) (x y : List ℕ) (i n : ℕ) → x ≡ bits_laid m ts i → y ≡ written x (34 + 7 * i) (block_bits ts i) n → n ≡ 7 → y ≡ bits_laid m ts (i + 1)
 unfolding bits_laid
-bits_none m ts = refl
+bits-more m ts x y i n ex ey en = ey ∙ rw (add-one i, ex, en) refl
 
-pub bits-more : (m : List ℕ) (ts : List SlotBits) (x y : List ℕ) (i : ℕ) → x ≡ bits_laid m ts i → y ≡ written x (34 + 7 * i) (block_bits ts i) 7 → y ≡ bits_laid m ts (i + 1)
-unfolding bits_laid
-bits-more m ts x y i ex ey = ey ∙ rw (add-one i, ex) refl
-
-pub bits-all : (m : List ℕ) (ts : List SlotBits) (x : List ℕ) (i : ℕ) → x ≡ bits_laid m ts i → i ≡ 6 → x ≡ bits_laid m ts 6
-bits-all m ts x i ex ei = ex ∙ ap (bits_laid m ts) ei
+-- the bit of a flag
+pub bit-is : (b : Bool) → bool_byte b ≡ bit_of b
+bit-is true = refl
+bit-is false = refl
 
 -- two lists that begin alike and go on alike
 pub also : {x y : ℕ} {xs ys : List ℕ} → x ≡ y → xs ≡ ys → (x ∷ xs) ≡ (y ∷ ys)

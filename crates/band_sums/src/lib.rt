@@ -10,6 +10,17 @@ ghost use Rattle.alloc.specs.Premises.{Exponents};
 
 use alloc::end_of;
 
+// The exponents of a channel, which has the bins start .. end - 1.
+#[derive(Clone, Copy)]
+pub struct Bins<'a> {
+    pub exps: &'a [u8],
+    pub start: usize,
+    pub end: usize,
+    pub ghost some: { start < end },
+    pub ghost within: { end ≤ 253 },
+    pub ghost ready: { Exponents exps.now start end },
+}
+
 // The larger of two powers that lie d apart, raised as log addition says. From 510 on the table has 0.
 fn raised(latab: &[u8; 256], top: u32, d: u32) -> u32
     requires { (latab.now ≡ laTab) × (top < 65536) }
@@ -50,28 +61,27 @@ fn below(e: u8) -> u8
     4 * e
 }
 
-// The powers of the bins start .. end - 1 and the sums of their bands, in one pass: s is the sum of band k, which ends at the bin
+// The powers of a channel's bins and the sums of their bands, in one pass: s is the sum of band k, which ends at the bin
 // `to`. The other bins keep 0, and the other bands the level of 0.
 pub fn bands(
     latab: &[u8; 256],
     ends: &[u8; 50],
-    exps: &[u8],
+    bins: &Bins,
     powers: &mut [u8; 256],
     bnd: &mut [u32; 50],
-    start: usize,
-    end: usize,
     first: usize,
 )
     requires latab_value { (latab.now ≡ laTab) × (ends.now ≡ bndend) × (powers.old ≡ replicate 256 0) × (bnd.old ≡ replicate 50 8192) }
-    requires start_lt_end { (start < end) × (end ≤ 253) × Exponents exps.now start end × (first ≡ band_of start) }
-    ensures { (powers.new ≡ (range_l exps.now start end).powers) × (bnd.new ≡ (range_l exps.now start end).sums) }
+    requires first_band { first ≡ band_of bins.now.start }
+    ensures { (powers.new ≡ (range_l bins.now.exps.now bins.now.start bins.now.end).powers) × (bnd.new ≡ (range_l bins.now.exps.now bins.now.start bins.now.end).sums) }
 {
-    let o = exps[start];
-    powers[start] = below(o);
+    let exps = bins.exps;
+    let o = exps[bins.start];
+    powers[bins.start] = below(o);
     let mut s = power(o);
     let mut k = first;
     let mut to = end_of(ends, first);
-    for j in start + 1..end {
+    for j in bins.start + 1..bins.end {
         let e = exps[j];
         powers[j] = below(e);
         let p = power(e);

@@ -1,10 +1,13 @@
 -- A frame with its crc2. Assumes nothing.
-use mathlib.Core.Path.{◌≡◌, ap, ap₂, ◌∙◌}
+use mathlib.Core.Path.{◌≡◌, refl, ap, ap₂, ◌∙◌}
 use mathlib.Core.Logic.{◌≢◌}
-use mathlib.Core.List.{List}
-use Prim.Native.Nat.{ℕ, ◌+◌, ◌*◌, ◌-◌, ◌/◌, ◌%◌, ◌^◌, ◌<◌, ◌≤◌}
+use mathlib.Core.List.{List, [], ◌∷◌}
+use Prim.Native.Nat.{ℕ, zero, suc, ◌+◌, ◌*◌, ◌-◌, ◌/◌, ◌%◌, ◌^◌, ◌<◌, ◌≤◌}
 use native.Mathlib.Omega.{arith}
 use lib.ListN.{length, get_or, set, length-set}
+use mir.Syntax.{w16}
+use borrow.Rule.Slice.PartMut.{put_mid}
+use Rattle.std.specs.Int.{to_be_bytes}
 use lib.Seq.{get_or-set_same, get_or-set_other}
 use Rattle.bits.specs.Bits.{bit_at, bits_at, SameBits}
 use Rattle.bits.proofs.BitLaws.{byte-is, bits_at-add}
@@ -99,3 +102,19 @@ module _ (s : List ℕ) (n : ℕ) {r : ℕ} (six : 6 ≤ n) (e : r ≡ remainder
   pub written : set (set s (n - 2) (r / 256)) (n - 1) (r % 256) ≡ with_crc2 s n
   unfolding with_crc2
   written = ap (λ (x : ℕ). set (set s (n - 2) (x / 256)) (n - 1) (x % 256)) found
+
+-- two elements put in at a place
+two_put : (s : List ℕ) (p a b : ℕ) → p + 1 < length s → put_mid p 2 s (a ∷ b ∷ []) ≡ set (set s p a) (suc p) b
+two_put [] p a b h = absurd (omega arith)
+two_put (x ∷ []) zero a b h = absurd (omega arith)
+two_put (x ∷ y ∷ t) zero a b h = refl
+two_put (x ∷ t) (suc p) a b h = ap (λ (z : List ℕ). x ∷ z) (two_put t p a b (omega arith))
+
+-- a number as its two bytes, the high one first, put in at the end of the first n elements
+pub put-in : (s : List ℕ) (n r : ℕ) {ys : List ℕ} → 2 ≤ n → n ≤ length s → r < 65536 → ys ≡ to_be_bytes w16 r
+    → put_mid (n - 2) (n - (n - 2)) s ys ≡ set (set s (n - 2) (r / 256)) (n - 1) (r % 256)
+put-in s n r {ys} two held small e =
+    let k : n - (n - 2) ≡ 2 = omega arith in
+    let m : suc (n - 2) ≡ n - 1 = omega arith in
+    let high : r / 256 % 256 ≡ r / 256 = omega arith in
+    rw (e, k, ← m) (two_put s (n - 2) (r / 256 % 256) (r % 256) (omega arith) ∙ ap (λ (x : ℕ). set (set s (n - 2) x) (suc (n - 2)) (r % 256)) high)

@@ -1,11 +1,13 @@
 -- The remainder of bytes, by what their bits come to. Assumes nothing.
 use mathlib.Core.Path.{◌≡◌, refl, sym, ap, ap₂, ◌∙◌}
-use mathlib.Core.List.{List}
+use mathlib.Core.List.{List, []}
 use Prim.Native.Nat.{ℕ, zero, suc, ◌+◌, ◌*◌, ◌-◌, ◌/◌, ◌%◌, ◌^◌, ◌<◌, ◌≤◌}
 use native.Mathlib.Nat.{add-zero, add-suc}
 use native.Mathlib.Omega.{arith}
 use lib.Dec.{lit<}
-use lib.ListN.{get_or}
+use lib.ListN.{length, take, drop, get_or}
+use Rattle.std.specs.Simd.{first_chunks}
+use Rattle.std.proofs.lemmas.List.{get_or-take, get_or-drop, length-take, length-drop, drop-drop}
 use Rattle.bits.specs.Bits.{bit_at, SameBits}
 use Rattle.bits.proofs.BitLaws.{bit_at_lt}
 use Rattle.crc.specs.Crc.{step, remainder}
@@ -37,38 +39,52 @@ bits-more s p n i (suc k) e h =
 pub more : (s : List ℕ) (p n m i : ℕ) → p + n ≡ 8 * i → m ≡ n + 8 → remainder s p m ≡ after (remainder s p n) (get_or s i 0) 8
 more s p n m i e w = ap (remainder s p) w ∙ bits-more s p n i 8 e (omega arith)
 
--- in the loop: r is the remainder of the bytes before i
-pub record Passed (s : List ℕ) (from to r i : ℕ) : Type 0 where
-  pub begun : from ≤ i
-  pub within : i ≤ to
-  pub register : r ≡ remainder s (8 * from) (8 * (i - from))
+-- the bytes from `from` on: n are taken, and one more
+pub one_more : (s : List ℕ) (from n : ℕ) {r c : ℕ} → r ≡ remainder s (8 * from) (8 * n) → c ≡ after r (get_or s (from + n) 0) 8 → c ≡ remainder s (8 * from) (8 * (n + 1))
+one_more s from n {r} {c} p e =
+    e
+    ∙ ap (λ (x : ℕ). after x (get_or s (from + n) 0) 8) p
+    ∙ sym (more s (8 * from) (8 * n) (8 * (n + 1)) (from + n) (omega arith) (omega arith))
 
-pub none : (s : List ℕ) (from to : ℕ) → from ≤ to → Passed s from to 0 from
-unfolding remainder
-none s from to h =
-    let empty : 8 * (from - from) ≡ 0 = omega arith in
-    record { begun = omega arith; within = h; register = sym (ap (remainder s (8 * from)) empty) }
+-- the bytes of a part in pairs, and what stands behind the pairs
+pair-at : (n k : ℕ) (xs : List ℕ) → k < n → get_or (first_chunks 2 n xs) k [] ≡ take 2 (drop (2 * k) xs)
+pair-at zero k xs h = absurd (let z : ⊥ = omega arith in z)
+pair-at (suc n) zero xs h = refl
+pair-at (suc n) (suc k) xs h =
+    let e : 2 + 2 * k ≡ 2 * suc k = omega arith in
+    pair-at n k (drop 2 xs) (omega arith) ∙ ap (take 2) (drop-drop (2 * k) 2 xs ∙ ap (λ (i : ℕ). drop i xs) e)
 
-pub one_more : {s : List ℕ} {from to r i c : ℕ} → Passed s from to r i → i < to → c ≡ after r (get_or s i 0) 8 → Passed s from to c (i + 1)
-one_more {s} {from} {to} {r} {i} {c} p h e =
-    let begun = p.begun in
-    record {
-      begun = omega arith;
-      within = omega arith;
-      register =
-          e
-          ∙ ap (λ (x : ℕ). after x (get_or s i 0) 8) p.register
-          ∙ sym (more s (8 * from) (8 * (i - from)) (8 * (i + 1 - from)) i (omega arith) (omega arith));
-    }
+module _ (s : List ℕ) (from to : ℕ) (h : from ≤ to) (l : to ≤ length s) where
+  abbrev part : List ℕ
+  part = take (to - from) (drop from s)
 
-pub two-more : {s : List ℕ} {from to r i c : ℕ} → Passed s from to r i → i + 1 < to
-    → c ≡ after (after r (get_or s i 0) 8) (get_or s (i + 1) 0) 8 → Passed s from to c (i + 2)
-two-more {s} {from} {to} {r} {i} {c} p h e =
-    let q = one_more (one_more p (omega arith) refl) h e in
-    let next : i + 1 + 1 ≡ i + 2 = omega arith in
-    rw (← next) q
+  pub long : length part ≡ to - from
+  long = omega (arith, length-take (to - from) (drop from s), length-drop from s)
 
-pub all : {s : List ℕ} {from to r i : ℕ} → Passed s from to r i → to ≤ i → r ≡ remainder s (8 * from) (8 * (to - from))
-all {s} {from} {to} {r} {i} p h =
-    let end : i ≡ to = let w = p.within in omega arith in
-    p.register ∙ ap (λ (j : ℕ). remainder s (8 * from) (8 * (j - from))) end
+  byte-at : (i : ℕ) → i < to - from → get_or part i 0 ≡ get_or s (from + i) 0
+  byte-at i u = get_or-take (to - from) (drop from s) i 0 u ∙ get_or-drop from s i 0
+
+  module _ {pairs : List (List ℕ)} (front : pairs ≡ first_chunks 2 (length part / 2) part) (fronts : length pairs ≡ length part / 2) where
+    of-pair : (k i : ℕ) → k < length pairs → i < 2 → get_or (get_or pairs k []) i 0 ≡ get_or s (from + (2 * k + i)) 0
+    of-pair k i u v =
+        let u' : k < length part / 2 = omega arith in
+        let w : 2 * k + i < to - from = omega (arith, long) in
+        ap (λ (x : List (List ℕ)). get_or (get_or x k []) i 0) front
+        ∙ ap (λ (x : List ℕ). get_or x i 0) (pair-at (length part / 2) k part u')
+        ∙ get_or-take 2 (drop (2 * k) part) i 0 v
+        ∙ get_or-drop (2 * k) part i 0
+        ∙ byte-at (2 * k + i) w
+
+    pub pair_more : {r c k : ℕ} → r ≡ remainder s (8 * from) (8 * (2 * k)) → k < length pairs
+        → c ≡ after (after r (get_or (get_or pairs k []) 0 0) 8) (get_or (get_or pairs k []) 1 0) 8 → c ≡ remainder s (8 * from) (8 * (2 * (k + 1)))
+    pair_more {r} {c} {k} p u e =
+        let a : get_or (get_or pairs k []) 0 0 ≡ get_or s (from + 2 * k) 0 = of-pair k 0 u (omega arith) ∙ ap (λ (x : ℕ). get_or s (from + x) 0) (add-zero (2 * k)) in
+        let b : get_or (get_or pairs k []) 1 0 ≡ get_or s (from + (2 * k + 1)) 0 = of-pair k 1 u (omega arith) in
+        let n : 2 * k + 1 + 1 ≡ 2 * (k + 1) = omega arith in
+        one_more s from (2 * k + 1) (one_more s from (2 * k) p refl) (e ∙ ap₂ (λ (x y : ℕ). after (after r x 8) y 8) a b) ∙ ap (λ (x : ℕ). remainder s (8 * from) (8 * x)) n
+
+  pub behind : {rest : List ℕ} → rest ≡ drop (length part / 2 * 2) part → (i : ℕ) → i < length part % 2 → get_or rest i 0 ≡ get_or s (from + (2 * ((to - from) / 2) + i)) 0
+  behind {rest} e i u =
+      let w : length part / 2 * 2 + i < to - from = omega (arith, long) in
+      let z : length part / 2 * 2 + i ≡ 2 * ((to - from) / 2) + i = omega (arith, ap (λ (x : ℕ). x / 2) long) in
+      ap (λ (x : List ℕ). get_or x i 0) e ∙ get_or-drop (length part / 2 * 2) part i 0 ∙ byte-at (length part / 2 * 2 + i) w ∙ ap (λ (x : ℕ). get_or s (from + x) 0) z

@@ -12,49 +12,53 @@ ghost use Rattle.crc.specs.Table.{Stepped};
 use bits::ByteCount;
 use steps::{EIGHT_STEPS, SIXTEEN_STEPS};
 
-fn eight_steps() -> [u16; 256]
-    ensures { Stepped 8 result }
-{
-    EIGHT_STEPS
+// The tables of eight and of sixteen one-bit steps.
+#[derive(Clone, Copy)]
+struct Tables {
+    eight: [u16; 256],
+    sixteen: [u16; 256],
+    ghost by_eight: { Stepped 8 eight },
+    ghost by_sixteen: { Stepped 16 sixteen },
 }
 
-fn sixteen_steps() -> [u16; 256]
-    ensures { Stepped 16 result }
-{
-    SIXTEEN_STEPS
-}
-
-// The register after a byte.
-fn take_byte(eight: &[u16; 256], r: u16, byte: u8) -> u16
-    requires { Stepped 8 eight.now }
-    ensures { result ≡ after r byte 8 }
-{
-    (r << 8) ^ eight[((r >> 8) as u8 ^ byte) as usize]
-}
-
-// The register after two bytes.
-fn take_two(eight: &[u16; 256], sixteen: &[u16; 256], r: u16, first: u8, second: u8) -> u16
-    requires { (Stepped 8 eight.now) × (Stepped 16 sixteen.now) }
-    ensures { result ≡ after (after r first 8) second 8 }
-{
-    sixteen[((r >> 8) as u8 ^ first) as usize] ^ eight[((r % 256) as u8 ^ second) as usize]
-}
-
-// The remainder of the bytes from `from` up to `to`, by lent tables.
-fn pass(eight: &[u16; 256], sixteen: &[u16; 256], src: &[u8], from: usize, to: usize) -> u16
-    requires { (Stepped 8 eight.now) × (Stepped 16 sixteen.now) × (from ≤ to) × (to ≤ length src.now) }
-    ensures { result ≡ remainder src.now (8 * from) (8 * (to - from)) }
-{
-    let mut r: u16 = 0;
-    let mut i = from;
-    while i + 1 < to {
-        r = take_two(eight, sixteen, r, src[i], src[i + 1]);
-        i += 2;
+impl Tables {
+    fn new() -> Tables {
+        Tables {
+            eight: EIGHT_STEPS,
+            sixteen: SIXTEEN_STEPS,
+        }
     }
-    if i < to {
-        return take_byte(eight, r, src[i]);
+
+    // The register after a byte.
+    fn take_byte(&self, r: u16, byte: u8) -> u16
+        ensures { result ≡ after r byte 8 }
+    {
+        (r << 8) ^ self.eight[((r >> 8) as u8 ^ byte) as usize]
     }
-    r
+
+    // The register after two bytes.
+    fn take_two(&self, r: u16, first: u8, second: u8) -> u16
+        ensures { result ≡ after (after r first 8) second 8 }
+    {
+        self.sixteen[((r >> 8) as u8 ^ first) as usize]
+            ^ self.eight[((r % 256) as u8 ^ second) as usize]
+    }
+
+    // The remainder of the bytes from `from` up to `to`.
+    fn pass(&self, src: &[u8], from: usize, to: usize) -> u16
+        requires { (from ≤ to) × (to ≤ length src.now) }
+        ensures { result ≡ remainder src.now (8 * from) (8 * (to - from)) }
+    {
+        let (pairs, rest) = src[from..to].as_chunks::<2>();
+        let mut r = 0;
+        for pair in pairs {
+            r = self.take_two(r, pair[0], pair[1]);
+        }
+        for byte in rest {
+            r = self.take_byte(r, *byte);
+        }
+        r
+    }
 }
 
 // The remainder of the bytes from `from` up to `to`.
@@ -62,9 +66,7 @@ pub fn remainder(src: &[u8], from: usize, to: usize) -> u16
     requires { (from ≤ to) × (to ≤ length src.now) }
     ensures { result ≡ remainder src.now (8 * from) (8 * (to - from)) }
 {
-    let eight = eight_steps();
-    let sixteen = sixteen_steps();
-    pass(&eight, &sixteen, src, from, to)
+    Tables::new().pass(src, from, to)
 }
 
 // Puts crc2 into the last two bytes of a frame of so many bytes, and hands it back. No other byte changes.
@@ -74,7 +76,6 @@ pub fn set_crc2(frame: &mut [u8], bytes: ByteCount) -> u16
 {
     let n = bytes.0 as usize;
     let r = remainder(frame, 2, n - 2);
-    frame[n - 2] = (r / 256) as u8;
-    frame[n - 1] = (r % 256) as u8;
+    frame[n - 2..n].copy_from_slice(&r.to_be_bytes());
     r
 }

@@ -1,10 +1,9 @@
 -- The words of a name, record by record, and what they span. Assumes nothing.
 use Rattle.std.proofs.Common.{◌≡◌, ℕ, zero, suc, ◌+◌, ◌-◌, ◌%◌, ◌<◌, ◌≤◌, Bool, true, false, cond, ◌||◌, eqb, List, [], ◌∷◌, get_or, sym, refl, ap, ◌∙◌, subst, arith}
-use native.Mathlib.Decide.{dec_lt}
 use Rattle.names.specs.Names.{dynrng, compr, dynrng2, compr2}
 use Rattle.gain.specs.declared.Extent.{Extent}
 use Rattle.gain.specs.declared.Extents.{Extents}
-use Rattle.gain.specs.Parts.{named, none, add_to, extent_from, nothing_yet, gain_name, NextWord, noted, extents_of}
+use Rattle.gain.specs.Parts.{named, none, add_to, extent_from, nothing_yet, gain_name, noted, extents_of}
 
 -- every word of the list is a byte
 abbrev pub Bytes : List ℕ → Type 0
@@ -97,31 +96,6 @@ none-noted e name w h = go (eqb name dynrng) (eqb name compr) (eqb name dynrng2)
     go false false false true h = absurd (let z : ◌≡◌ {A = ℕ} 0 1 = cc in omega arith)
     go false false false false h = refl
 
--- records that are no gain words are passed over
-skip : (ns vs : List ℕ) (n : ℕ) (e : Extents) (i d : ℕ) → i + d ≤ n → ((j : ℕ) → i ≤ j → j < i + d → gain_name (get_or ns j 0) ≡ false) → AllGoing ns vs i n e → AllGoing ns vs (i + d) n e
-skip ns vs n e i zero l h G = let k : i ≡ i + 0 = omega arith in subst (λ (z : ℕ). AllGoing ns vs z n e) k G
-skip ns vs n e i (suc d) l h G =
-    let k : i + d + 1 ≡ i + suc d = omega arith in
-    let H = skip ns vs n e i d (omega arith) (λ j a b. h j a (omega arith)) G in
-    subst (λ (z : ℕ). AllGoing ns vs z n e) k
-    (subst (AllGoing ns vs (i + d + 1) n) (sym (none-noted e (get_or ns (i + d) 0) (get_or vs (i + d) 0 % 256) (h (i + d) (omega arith) (omega arith))))
-    (all_go ns vs (i + d) n e (omega arith) H))
-
-pub passed : (ns vs : List ℕ) (n : ℕ) (e : Extents) (i r : ℕ) → NextWord ns i n r → AllGoing ns vs i n e → AllGoing ns vs r n e
-passed ns vs n e i r w G =
-    let k : i + (r - i) ≡ r = omega (arith, w.low) in
-    subst (λ (z : ℕ). AllGoing ns vs z n e) k (skip ns vs n e i (r - i) (omega (arith, w.low, w.high)) (λ j a b. w.none_before j a (omega (arith, w.low))) G)
-
--- none of the places from one on, before another, holds a gain word
-pub record None (ns : List ℕ) (from i : ℕ) : Type 0 where
-  pub before : (j : ℕ) → from ≤ j → j < i → gain_name (get_or ns j 0) ≡ false
-
-pub none-begins : (ns : List ℕ) (from : ℕ) → None ns from from
-none-begins ns from = record { before = λ j a b. absurd (let z : ⊥ = omega arith in z) }
-
-pub none_more : (ns : List ℕ) (from i : ℕ) → None ns from i → gain_name (get_or ns i 0) ≡ false → None ns from (i + 1)
-none_more ns from i N h = record { before = λ j a b. go j a b (dec_lt j i) }
-  where
-    go : (j : ℕ) → from ≤ j → j < i + 1 → Dec (j < i) → gain_name (get_or ns j 0) ≡ false
-    go j a b (yes l) = N.before j a l
-    go j a b (no l) = let e : i ≡ j = omega arith in subst (λ (z : ℕ). gain_name (get_or ns z 0) ≡ false) e h
+-- a record that is no gain word is passed over
+pub all_pass : (ns vs : List ℕ) (i n : ℕ) (e : Extents) → i < n → gain_name (get_or ns i 0) ≡ false → AllGoing ns vs i n e → AllGoing ns vs (i + 1) n e
+all_pass ns vs i n e l h G = subst (AllGoing ns vs (i + 1) n) (sym (none-noted e (get_or ns i 0) (get_or vs i 0 % 256) h)) (all_go ns vs i n e l G)

@@ -1,5 +1,5 @@
 -- What the code goes by: the range is found on words. The factor grows with the word as a signed byte (proofs/Ordered.antt).
-use Rattle.std.specs.Prelude.{◌≡◌, ℕ, zero, suc, ◌+◌, ◌%◌, ◌<◌, ◌≤◌, min, max, Bool, false, cond, ◌||◌, List, [], ◌∷◌, ◌==◌, slice_index}
+use Rattle.std.specs.Prelude.{ℕ, zero, suc, ◌+◌, ◌%◌, min, max, Bool, cond, ◌||◌, List, [], ◌∷◌, ◌==◌, slice_index}
 use Rattle.names.specs.Names.{dynrng, compr, dynrng2, compr2}
 use Rattle.gain.specs.declared.Kind.{Kind}
 use Rattle.gain.specs.declared.Range.{Range}
@@ -35,12 +35,6 @@ nothing_yet = record { dynrng = none; compr = none; dynrng2 = none; compr2 = non
 
 abbrev pub gain_name : ℕ → Bool
 gain_name n = n == dynrng || (n == compr || (n == dynrng2 || n == compr2))
-
--- r is the first place from one on, of n, whose record is a gain word; n if there is none
-pub record NextWord (ns : List ℕ) (from n r : ℕ) : Type 0 where
-  pub low : from ≤ r
-  pub high : r ≤ n
-  pub none_before : (i : ℕ) → from ≤ i → i < r → gain_name (slice_index ns i) ≡ false
 
 abbrev pub noted : Extents → ℕ → ℕ → Extents
 noted e name w = record {

@@ -1,21 +1,23 @@
 // The gain words of a frame as factors, dynrng and compr: the lowest and the highest, exactly.
 #![tactic(auto)]
 
-ghost use Rattle.std.specs.Prelude.{◌≡◌, ◌+◌, ◌%◌, ◌^◌, ◌<◌, ◌≤◌, min, max, length, if◌then◌else◌};
+ghost use Rattle.std.specs.Prelude.{◌≡◌, ◌+◌, ◌^◌, ◌<◌, ◌≤◌, length};
 ghost use Rattle.gain.specs.Factor.{dynrng_factor, compr_factor, factor_of, Exactly};
 ghost use Rattle.gain.specs.Gains.{ranged_of, gains_of};
-ghost use Rattle.gain.specs.Parts.{named, turn, add_to, gain_name, NextWord, noted as with_word, extents_of, spread_of, answer_of};
+ghost use Rattle.gain.specs.Parts.{named, turn, add_to, gain_name, noted as with_word, extents_of, spread_of, answer_of};
 
 use names::numbers::{COMPR, COMPR2, DYNRNG, DYNRNG2};
 
 // The two kinds of gain word.
-#[derive(Clone, Copy)]
+#[derive(Clone, Copy, PartialEq, Eq, Debug)]
 pub enum Kind {
     Dynrng,
     Compr,
 }
 
 // The answer for some words: none was sent, or the lowest and the highest factor.
+// Stays: docs/requests/08-gain-range.md names this form; an Option of a pair tells its reader neither what is none nor which
+// factor is which, and gain_c/specs/Numbers states the C answer over it.
 #[derive(Clone, Copy)]
 pub enum Gain {
     NotSent,
@@ -65,7 +67,7 @@ struct Extents {
 fn turned(w: u8) -> u8
     ensures { result ≡ turn w }
 {
-    std::num::wrapping_add_u8(w, 128)
+    w.wrapping_add(128)
 }
 
 // The factor of a dynrng word, exactly.
@@ -94,60 +96,24 @@ pub fn factor(kind: Kind, w: u8) -> f64
     }
 }
 
-fn least(a: u8, b: u8) -> u8
-    ensures { result ≡ min a b }
-{
-    if a < b { a } else { b }
-}
-
-fn most(a: u8, b: u8) -> u8
-    ensures { result ≡ max a b }
-{
-    if a < b { b } else { a }
-}
-
-fn low_byte(v: u32) -> u8
-    ensures { result ≡ v % 256 }
-{
-    (v % 256) as u8
-}
-
-// One record more: it counts where it is a word.
-fn added(e: Extent, w: u8, counts: bool) -> Extent
+// One word more.
+fn added(e: Extent, w: u8) -> Extent
     requires { e.words + 1 < 2 ^ 64 }
-    ensures { result ≡ (if counts then add_to e w else e) }
+    ensures { result ≡ add_to e w }
 {
-    if counts {
-        let b = turned(w);
-        return Extent {
-            low: least(e.low, b),
-            high: most(e.high, b),
-            words: e.words + 1,
-        };
+    let b = turned(w);
+    Extent {
+        low: e.low.min(b),
+        high: e.high.max(b),
+        words: e.words + 1,
     }
-    e
 }
 
 // Whether a record of this name is a gain word.
 fn gain_word(name: u8) -> bool
     ensures { result ≡ gain_name name }
 {
-    name == DYNRNG || (name == COMPR || (name == DYNRNG2 || name == COMPR2))
-}
-
-// The first place from one on, of so many, whose record is a gain word; the last place's successor if there is none.
-fn next_word(names: &[u8], from: usize, count: usize) -> usize
-    requires { (from ≤ count) × (count ≤ length names.now) }
-    ensures { NextWord names.now from count result }
-{
-    let mut i = from;
-    while i < count {
-        if gain_word(names[i]) {
-            return i;
-        }
-        i += 1;
-    }
-    i
+    matches!(name, DYNRNG | COMPR | DYNRNG2 | COMPR2)
 }
 
 // One record more, for the words of its name.
@@ -155,11 +121,24 @@ fn noted(e: Extents, name: u8, w: u8) -> Extents
     requires { (e.dynrng.words + 1 < 2 ^ 64) × (e.compr.words + 1 < 2 ^ 64) × (e.dynrng2.words + 1 < 2 ^ 64) × (e.compr2.words + 1 < 2 ^ 64) }
     ensures { result ≡ with_word e name w }
 {
-    Extents {
-        dynrng: added(e.dynrng, w, name == DYNRNG),
-        compr: added(e.compr, w, name == COMPR),
-        dynrng2: added(e.dynrng2, w, name == DYNRNG2),
-        compr2: added(e.compr2, w, name == COMPR2),
+    match name {
+        DYNRNG => Extents {
+            dynrng: added(e.dynrng, w),
+            ..e
+        },
+        COMPR => Extents {
+            compr: added(e.compr, w),
+            ..e
+        },
+        DYNRNG2 => Extents {
+            dynrng2: added(e.dynrng2, w),
+            ..e
+        },
+        COMPR2 => Extents {
+            compr2: added(e.compr2, w),
+            ..e
+        },
+        _ => e,
     }
 }
 
@@ -179,10 +158,10 @@ fn extents_in(names: &[u8], values: &[u32], count: usize) -> Extents
         dynrng2: none,
         compr2: none,
     };
-    let mut i = next_word(names, 0, count);
-    while i < count {
-        e = noted(e, names[i], low_byte(values[i]));
-        i = next_word(names, i + 1, count);
+    for i in 0..count {
+        if gain_word(names[i]) {
+            e = noted(e, names[i], (values[i] % 256) as u8);
+        }
     }
     e
 }
@@ -219,10 +198,10 @@ fn gain_from(r: Range) -> Gain
 fn told(kind: Kind, e: Extent) -> Ranged
     ensures { result ≡ record { gain = answer_of (spread_of kind e); range = spread_of kind e } }
 {
-    let r = spread(kind, e);
+    let range = spread(kind, e);
     Ranged {
-        gain: gain_from(r),
-        range: r,
+        gain: gain_from(range),
+        range,
     }
 }
 

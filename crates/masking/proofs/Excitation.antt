@@ -1,18 +1,20 @@
 -- The excitation, from one band to the next.
 -- Assumes nothing.
 use mathlib.Core.Path.{◌≡◌, refl, ◌∙◌}
+use mathlib.Core.Bool.{◌&&◌}
 use mathlib.Core.List.{List}
 use Prim.Native.Nat.{ℕ, zero, suc, ◌+◌, ◌-◌, ◌<◌, ◌≤◌}
 use native.Mathlib.Omega.{arith}
 use borrow.Author.Tests.{le-ltb, ne_eqb}
 use lib.ListN.{length, get_or, set, replicate}
-use lib.Dec.{ltb}
+use lib.Dec.{ltb, eqb}
 use Rattle.alloc.specs.declared.Gains.{Gains}
 use Rattle.alloc.specs.declared.Leaks.{Leaks}
 use Rattle.alloc.specs.declared.Passed.{Passed}
+use Rattle.alloc.specs.Allocation.{lfe_last}
 use Rattle.alloc.specs.Levels.{next_low_l, begin_l, fast_l, slow_l, low_l, excite_l, excite_of_l, NextL}
 use Rattle.alloc.specs.Premises.{Written, Passing, Excites, Leaking}
-use Rattle.alloc.proofs.Lists.{picked_low, written_low, written_none, written-more, written-join}
+use Rattle.alloc.proofs.Lists.{picked_low, written_low, written-more, written-join}
 
 -- no band is passed yet
 pub passing-none : (bnd : List ℕ) (g : Gains) (l : Leaks) (first last : ℕ) (s : Passed) → s.fast ≡ l.fast → s.slow ≡ l.slow → s.low ≡ 0
@@ -26,6 +28,19 @@ passing-none bnd g l first last s fast slow low =
 pub low-none : (bnd : List ℕ) (first last low b : ℕ) → (first ≡ 0 → 22 ≤ b) → next_low_l bnd first last low b ≡ 0
 low-none bnd zero last low b n = simp (le-ltb b 22 (n refl))
 low-none bnd (suc first) last low b n = simp (ne_eqb (suc first) 0 (let z : suc first ≡ 0 → ⊥ = omega arith in z))
+
+-- lowcomp is at most 384
+pub low-most : (bnd : List ℕ) (first last low b : ℕ) → low ≤ 384 → next_low_l bnd first last low b ≤ 384
+low-most bnd first last low b h =
+    let r = picked_low (eqb first 0 && ltb b 22) _ 0 385
+    (picked_low (lfe_last last b) low _ 385 (omega arith)
+    (picked_low (ltb b 20) _ (low - 128) 385
+    (picked_low (eqb (get_or bnd b 0 + 256) (get_or bnd (b + 1) 0)) _ _ 385
+    (picked_low (ltb b 7) 384 320 385 (omega arith) (omega arith))
+    (picked_low (ltb (get_or bnd (b + 1) 0) (get_or bnd b 0)) (low - 64) low 385 (omega arith) (omega arith)))
+    (omega arith)))
+    (omega arith) in
+    omega arith
 
 -- one band on
 module _ (bnd : List ℕ) (g : Gains) (l : Leaks) (first last b : ℕ) (s : Passed) (s' : Passed)
@@ -62,9 +77,6 @@ module _ (bnd : List ℕ) (g : Gains) (l : Leaks) (first last b : ℕ) (s : Pass
       record { from = omega (arith, so_far.from); fast = rw e fast'; slow = rw e slow'; low = rw e low' }
 
 module _ (bnd : List ℕ) (g : Gains) (first last : ℕ) where
-  pub excites-none : (lo : ℕ) (s : Passed) (old : List ℕ) → Excites bnd g first last lo lo s s old old
-  excites-none lo s old = record { up = omega arith; on = λ l p. p; made = λ l p. written_none _ lo old }
-
   pub excites-more : (lo b : ℕ) (s t t' : Passed) (old new : List ℕ) (e : ℕ)
       → Excites bnd g first last lo b s t old new → NextL bnd g t first last (begin_l bnd first last) b t' → b < length new
       → e ≡ excite_of_l t'.fast t'.slow t'.low (begin_l bnd first last) b

@@ -8,8 +8,10 @@ use native.Mathlib.Omega.{arith}
 use native.Mathlib.Decide.{ℕ_discrete}
 use native.Mathlib.Numerals.{add-one}
 use lib.Dec.{leb, eqb}
-use lib.ListN.{length, get_or, set, length-set}
+use lib.ListN.{length, get_or, set, take, length-set}
 use borrow.Author.Tests.{le-leb, lt-leb, ne_eqb, eqb-true, eqb-false, leb-false}
+use Rattle.std.specs.List.{list_any}
+use Rattle.std.proofs.lemmas.List.Folds.{list_any_more}
 use Rattle.syntax.specs.Records.{halted_at}
 use Rattle.syntax.specs.declared.Cursor.{Cursor}
 use Rattle.answer.specs.Cursors.{refusal_from}
@@ -24,17 +26,20 @@ use Rattle.mastering.specs.Listed.{Listed, Item, Settable}
 pub kept : {A : Type 0} (k : ℕ) (x y : A) → ¬ (k ≡ 0) → y ≡ cond (eqb k 0) x y
 kept k x y h = rw (ne_eqb k 0 h) refl
 
--- one place more is looked at
-pub listed_more : (places : List ℕ) (t i : ℕ) {b r : Bool} → b ≡ listed places t i → r ≡ (eqb (get_or places t 0) i || b) → r ≡ listed places (t + 1) i
+-- a test of the first t places, in `contains`'s words
+pub listed_any : (places : List ℕ) (i t : ℕ) → t ≤ length places → list_any (λ y. eqb y i) (take t places) ≡ listed places t i
 unfolding listed
-listed_more places t i e h = h ∙ ap (λ (b : Bool). eqb (get_or places t 0) i || b) e ∙ ap (λ (t : ℕ). listed places t i) (sym (add-one t))
-
-pub listed-none : (places : List ℕ) (i : ℕ) → false ≡ listed places 0 i
-unfolding listed
-listed-none places i = refl
-
-pub listed-all : (places : List ℕ) (i : ℕ) {t n : ℕ} {b : Bool} → b ≡ listed places t i → t ≤ n → n ≤ t → b ≡ listed places n i
-listed-all places i {t} {n} e h k = let z : t ≡ n = omega arith in e ∙ ap (λ (t : ℕ). listed places t i) z
+listed_any places i zero h = refl
+listed_any places i (suc t) h =
+    ap (λ (n : ℕ). list_any (λ y. eqb y i) (take n places)) (sym (add-one t))
+    ∙ list_any_more (λ y. eqb y i) places t 0 (omega arith)
+    ∙ turn (list_any (λ y. eqb y i) (take t places)) (eqb (get_or places t 0) i) (listed_any places i t (omega arith))
+  where
+    turn : (a b : Bool) {c : Bool} → a ≡ c → (a || b) ≡ (b || c)
+    turn true true e = refl
+    turn true false e = e
+    turn false true e = refl
+    turn false false e = e
 
 pub number-none : (names : List ℕ) (n : ℕ) (places words : List ℕ) → 0 ≡ number_to names n places words 0
 unfolding number_to
@@ -64,10 +69,19 @@ module _ (names : List ℕ) (n : ℕ) (places : List ℕ) (t v : ℕ) where
 
 -- and of all
 module _ (names : List ℕ) (n : ℕ) (places words : List ℕ) where
-  pub number_more : (t : ℕ) {k b : ℕ} → b ≡ number_to names n places words t → k ≡ item_number names n places t (get_or words t 0) → {r : ℕ} → r ≡ cond (eqb b 0) k b
-      → r ≡ number_to names n places words (t + 1)
+  pub number_on : (t : ℕ) → 0 ≡ number_to names n places words t → {k : ℕ} → k ≡ item_number names n places t (get_or words t 0) → k ≡ number_to names n places words (t + 1)
   unfolding number_to
-  number_more t e q h = h ∙ ap₂ (λ (b k : ℕ). cond (eqb b 0) k b) e q ∙ ap (number_to names n places words) (sym (add-one t))
+  number_on t e q =
+      q ∙ ap (λ (b : ℕ). cond (eqb b 0) (item_number names n places t (get_or words t 0)) b) e ∙ ap (number_to names n places words) (sym (add-one t))
+
+  number_stays : (m t : ℕ) → t ≤ m → 0 < number_to names n places words t → number_to names n places words m ≡ number_to names n places words t
+  unfolding number_to
+  number_stays zero t h k = let z : 0 ≡ t = omega arith in ap (number_to names n places words) z
+  number_stays (suc m) t h k =
+      by_cases (ℕ_discrete (suc m) t) (λ z. ap (number_to names n places words) z)
+      (λ z. let e = number_stays m t (omega arith) k in
+      let p : ¬ (number_to names n places words m ≡ 0) = λ q. omega arith in
+      rw (ne_eqb (number_to names n places words m) 0 p) e)
 
   pub too_many : {m : ℕ} → m ≡ items_of places words → 16 < m → 48 ≡ words_number names n places words
   unfolding words_number
@@ -78,6 +92,13 @@ module _ (names : List ℕ) (n : ℕ) (places words : List ℕ) where
   number-all {m} {t} e h i j q =
       let z : t ≡ items_of places words = omega arith in
       rw (lt-leb 17 (items_of places words) (omega arith)) (q ∙ ap (number_to names n places words) z)
+
+  -- the first item that has a number stops the test
+  pub stopped : {m t k : ℕ} → m ≡ items_of places words → m ≤ 16 → t < m → 0 ≡ number_to names n places words t → k ≡ item_number names n places t (get_or words t 0) → 0 < k
+      → k ≡ words_number names n places words
+  stopped {m} {t} {k} e h l z q p =
+      let r = number_on t z q in
+      number-all {t = m} e h (omega arith) (omega arith) (r ∙ sym (number_stays m (t + 1) (omega arith) (omega (arith, r))))
 
 -- where nothing stands in the way the place is in the list, the name is a word's, and the value has its bits
 pub record Fit (names : List ℕ) (n i v : ℕ) : Type 0 where
@@ -138,6 +159,7 @@ settable {long} {names} {firsts} {room} {b} {n} {places} {words} {m} L e z q = r
         named = omega (arith, F.within, L.named);
         placed = omega (arith, F.within, L.placed);
         valued = omega (arith, F.within, L.valued);
+        word = F.word;
         value = F.value;
         place = omega (arith, L.most);
         whole = omega (arith, L.whole);
@@ -145,19 +167,20 @@ settable {long} {names} {firsts} {room} {b} {n} {places} {words} {m} L e z q = r
 }
 
 -- what writing one asks
-pub item-asks : {long : ℕ} {names firsts : List ℕ} {room i v w : ℕ} → Item long names firsts room i v → (w ≡ width_of (get_or names i 0)) × (w ≤ 8) → {m : ℕ} → m ≡ long
+pub item-asks : {long : ℕ} {names firsts : List ℕ} {room i v w : ℕ} → Item long names firsts room i v → (w ≡ width_of (get_or names i 0)) × (0 < w) × (w ≤ 8) → {m : ℕ} → m ≡ long
     → (w ≤ 8) × (v < 2 ^ w) × (get_or firsts i 0 + w < 65536) × (get_or firsts i 0 / 8 + 1 < m)
-item-asks F q l = (q.1, rw q.0 F.value, omega (arith, q.0, F.place), omega (arith, F.whole))
+item-asks F q l = (q.2, rw q.0 F.value, omega (arith, q.0, F.place), omega (arith, F.whole))
 
 -- one item more
 module _ (s names firsts places words : List ℕ) where
-  pub worded-more : (t : ℕ) {w : ℕ} {x y : List ℕ} → x ≡ worded_to s names firsts places words t → w ≡ width_of (get_or names (get_or places t 0) 0)
-      → y ≡ with_word x (get_or firsts (get_or places t 0) 0) w (get_or words t 0) → y ≡ worded_to s names firsts places words (t + 1)
+  pub worded-more : (t : ℕ) {i v w m : ℕ} {x y : List ℕ} → x ≡ worded_to s names firsts places words t → i ≡ get_or places t 0 → v ≡ get_or words t 0 → w ≡ width_of (get_or names i 0)
+      → y ≡ with_word x (get_or firsts i 0) w v → m ≡ t + 1 → y ≡ worded_to s names firsts places words m
   unfolding worded_to
-  worded-more t e q h = h ∙ ap₂ (λ (x : List ℕ) (w : ℕ). with_word x (get_or firsts (get_or places t 0) 0) w (get_or words t 0)) e q ∙ ap (worded_to s names firsts places words) (sym (add-one t))
-
-  pub worded-all : {t m : ℕ} {x : List ℕ} → x ≡ worded_to s names firsts places words t → t ≤ m → m ≤ t → x ≡ worded_to s names firsts places words m
-  worded-all {t} {m} e h k = let z : t ≡ m = omega arith in e ∙ ap (worded_to s names firsts places words) z
+  worded-more t {i} {v} {w} {m} {x} {y} e p q l h k =
+      h ∙ ap (λ (w : ℕ). with_word x (get_or firsts i 0) w v) l
+      ∙ ap (λ (x : List ℕ). with_word x (get_or firsts i 0) (width_of (get_or names i 0)) v) e
+      ∙ ap₂ (λ (i v : ℕ). with_word (worded_to s names firsts places words t) (get_or firsts i 0) (width_of (get_or names i 0)) v) p q
+      ∙ ap (worded_to s names firsts places words) (sym (k ∙ add-one t))
 
   pub worded-long : (t : ℕ) → length (worded_to s names firsts places words t) ≡ length s
   unfolding worded_to with_word
@@ -165,12 +188,10 @@ module _ (s names firsts places words : List ℕ) where
   worded-long (suc t) = rw (length-set, length-set) (worded-long t)
 
 module _ (held places words : List ℕ) where
-  pub values-more : (t : ℕ) {x : List ℕ} → x ≡ values_to held places words t → set x (get_or places t 0) (get_or words t 0) ≡ values_to held places words (t + 1)
+  pub values-more : (t : ℕ) {i v m : ℕ} {x : List ℕ} → x ≡ values_to held places words t → i ≡ get_or places t 0 → v ≡ get_or words t 0 → m ≡ t + 1 → set x i v ≡ values_to held places words m
   unfolding values_to
-  values-more t e = ap (λ (x : List ℕ). set x (get_or places t 0) (get_or words t 0)) e ∙ ap (values_to held places words) (sym (add-one t))
-
-  pub values-all : {t m : ℕ} {x : List ℕ} → x ≡ values_to held places words t → t ≤ m → m ≤ t → x ≡ values_to held places words m
-  values-all {t} {m} e h k = let z : t ≡ m = omega arith in e ∙ ap (values_to held places words) z
+  values-more t {i} {v} {m} {x} e p q k =
+      ap (λ (x : List ℕ). set x i v) e ∙ ap₂ (λ (i v : ℕ). set (values_to held places words t) i v) p q ∙ ap (values_to held places words) (sym (k ∙ add-one t))
 
   pub values-long : (t : ℕ) → length (values_to held places words t) ≡ length held
   unfolding values_to
@@ -187,6 +208,9 @@ module _ (s names firsts held : List ℕ) (b n : ℕ) (places words : List ℕ) 
       ap₂ (λ (vs : List ℕ) (c : ℕ). set vs (n - 1) c) (ev ∙ ap (values_to held places words) em)
       (ec ∙ ap (λ (x : List ℕ). crc2 x b) (ex ∙ ap (worded_to s names firsts places words) em))
 
--- the answer of a refusal
+-- the answer where all is set, and that of a refusal
+pub set-is : (a : Answer) (k n : ℕ) → k ≡ 0 → a ≡ answer_with a k n
+set-is a k n e = rw e refl
+
 pub refused-is : (a : Answer) (k n : ℕ) {c : Cursor} {r : Answer} → c ≡ halted_at 0 n k → r ≡ refusal_from c → ¬ (k ≡ 0) → r ≡ answer_with a k n
 refused-is a k n ec er h = er ∙ ap (λ (c : Cursor). refusal_from c) ec ∙ kept k a (refusal_from (halted_at 0 n k)) h

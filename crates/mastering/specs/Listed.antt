@@ -17,6 +17,7 @@ pub record Item (long : ℕ) (names firsts : List ℕ) (room i v : ℕ) : Type 0
   pub named : i < length names
   pub placed : i < length firsts
   pub valued : i < room
+  pub word : 0 < width_of (get_or names i 0)
   pub value : v < 2 ^ width_of (get_or names i 0)
   pub place : get_or firsts i 0 + width_of (get_or names i 0) < 65536
   pub whole : get_or firsts i 0 / 8 + 1 < long

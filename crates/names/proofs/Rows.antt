@@ -1,13 +1,13 @@
 -- Laws of spellings in a row. Assumes nothing.
-use Prim.Native.Nat.{ℕ, zero, suc, ◌+◌, ◌*◌, ◌≤◌, ◌<◌}
+use Prim.Native.Nat.{ℕ, zero, suc, ◌+◌, ◌-◌, ◌*◌, ◌≤◌, ◌<◌}
 use mathlib.Core.Path.{◌≡◌, refl, sym, ap, ◌∙◌}
 use mathlib.Core.Bool.{Bool, true, ◌&&◌}
 use mathlib.Core.List.{List, [], ◌∷◌}
 use native.Mathlib.Omega.{arith}
 use lib.Dec.{T, leb, leb→le}
-use native.Mathlib.Decide.{dec_lt}
-use lib.ListN.{length, get_or, set, take, get_or-append}
-use lib.Seq.{get_or-append-add, get_or-set_same, get_or-set_other, ext_get_or}
+use lib.ListN.{length, get_or, take, drop, get_or-append}
+use lib.Seq.{get_or-append-add, ext_get_or}
+use Rattle.std.proofs.lemmas.List.{length-append, length-take-le, length-drop, get_or-take, get_or-drop}
 use Rattle.names.specs.Names.{names}
 use Rattle.names.proofs.Bools.{and_left, and_right}
 use Rattle.names.specs.Spelling.{spellings, spelling_of, bytes, padded, in_row, rows}
@@ -39,6 +39,15 @@ pub count : length spellings ≡ 202
 unfolding spellings names
 count = refl
 
+row-lengths : (ls : List (List ℕ)) → length (in_row ls) ≡ 16 * length ls
+unfolding in_row
+row-lengths [] = refl
+row-lengths (l ∷ ls) = length-append (padded 16 l) (in_row ls) ∙ (let e = padded-length 16 l in let f = row-lengths ls in omega arith)
+
+rows-length : length rows ≡ 3232
+unfolding rows
+rows-length = row-lengths spellings ∙ rw count refl
+
 pub at_row : (n i : ℕ) → n < 202 → i < 16 → get_or rows (16 * n + i) 0 ≡ get_or (padded 16 (spelling_of n)) i 0
 unfolding rows
 at_row n i h k = in-row spellings n i (rw count h) k
@@ -47,14 +56,13 @@ at_row n i h k = in-row spellings n i (rw count h) k
 pub filled : (out l : List ℕ) → length out ≡ 16 → ((k : ℕ) → k < 16 → get_or out k 0 ≡ get_or (padded 16 l) k 0) → out ≡ padded 16 l
 filled out l e h = ext_get_or 0 out (padded 16 l) (e ∙ sym (padded-length 16 l)) (λ k b. h k (rw (← e) b))
 
--- one byte more of a row
-pub copied : (out row : List ℕ) (i x : ℕ) → i < length out → ((k : ℕ) → k < i → get_or out k 0 ≡ get_or row k 0) → x ≡ get_or row i 0
-    → (k : ℕ) → k < i + 1 → get_or (set out i x) k 0 ≡ get_or row k 0
-copied out row i x h before e k b = go (dec_lt k i)
-  where
-    go : Dec (k < i) → get_or (set out i x) k 0 ≡ get_or row k 0
-    go (yes l) = get_or-set_other out i k x 0 (λ q. omega arith) ∙ before k l
-    go (no l) = let q : k ≡ i = omega arith in rw q (get_or-set_same out i x 0 h ∙ e)
+-- the row of a name is its spelling, filled up
+pub row_is : (n : ℕ) → n < 202 → take (16 * n + 16 - 16 * n) (drop (16 * n) rows) ≡ padded 16 (spelling_of n)
+row_is n h =
+    let w : 16 * n + 16 - 16 * n ≡ 16 = omega arith in
+    let held : 16 ≤ length (drop (16 * n) rows) = rw (length-drop (16 * n) rows, rows-length) (omega arith) in
+    rw w (filled (take 16 (drop (16 * n) rows)) (spelling_of n) (length-take-le 16 (drop (16 * n) rows) held)
+    (λ k l. get_or-take 16 (drop (16 * n) rows) k 0 l ∙ get_or-drop (16 * n) rows k 0 ∙ at_row n k h l))
 
 -- no spelling is longer than 16 bytes
 unfoldable all_short : List (List ℕ) → Bool

@@ -10,7 +10,7 @@ pub mod numbers;
 mod spellings;
 
 // What a name means to those who change frames. Where there is a number, it is the programme, 0 or 1.
-#[derive(Clone, Copy)]
+#[derive(Clone, Copy, PartialEq, Eq, Debug)]
 pub enum Role {
     Plain,
     Sync,
@@ -46,10 +46,11 @@ pub fn all() -> [u8; 202]
 pub fn letters(name: u8) -> u8
     ensures { result ≡ length (spelling_of name) }
 {
-    if 202 <= name {
-        return 0;
+    if name < 202 {
+        spellings::LETTERS[name as usize]
+    } else {
+        0
     }
-    spellings::LETTERS[name as usize]
 }
 
 // All spellings one after another, each filled up to 16 bytes with blanks.
@@ -65,25 +66,22 @@ pub fn spelling(table: &[u8; 3232], name: u8) -> [u8; 16]
     requires { table.now ≡ rows }
     ensures { result ≡ padded 16 (spelling_of name) }
 {
-    let mut out = [32u8; 16];
-    if 202 <= name {
-        return out;
-    }
-    let from = 16 * (name as usize);
-    let mut i = 0;
-    while i < 16 {
-        out[i] = table[from + i];
-        i += 1;
+    let mut out = [b' '; 16];
+    if name < 202 {
+        let from = 16 * name as usize;
+        out.copy_from_slice(&table[from..from + 16]);
     }
     out
 }
 
 // The role of a name.
+#[tactic(auto, unfolding(crate::specs::Roles::roled, crate::specs::Roles::role_in))]
 pub fn role_of(name: u8) -> Role
     ensures { result ≡ role_of name }
 {
     match name {
         numbers::SYNCWORD => Role::Sync,
+        // Stays: an arm each, since arms joined by `|` become a test of a range, and `returns-in_default` then lacks their numbers.
         numbers::STRMTYP => Role::FrameSize,
         numbers::SUBSTREAMID => Role::FrameSize,
         numbers::FRMSIZ => Role::FrameSize,

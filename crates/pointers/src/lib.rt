@@ -11,6 +11,7 @@ ghost use Rattle.alloc.specs.Premises.{Exponents, Written, Tuned, Channelled, Le
 ghost use Rattle.alloc.specs.Shares.{shares_of};
 
 use alloc::{Channel, Deltas, Gains, Leak, Leaks, Levels, Params, Pointers, Tables, end_of};
+use band_sums::Bins;
 use masking::{Bands, Curve};
 
 // The band of a bin.
@@ -30,10 +31,10 @@ fn place(mask: u32, down: u32, base: u32) -> u32
 }
 
 // The places of the bands of a range, in place of their masks.
-fn place_bands(bands: &Bands, out: &mut [u32; 50], q: Levels)
-    requires { Levelled q }
-    ensures { Written (λ b. place_l (get_or out.old b 0) q.snr q.floor) bands.now.first bands.now.last out.old out.new }
+fn place_bands(bands: &Bands, out: &mut [u32; 50], curve: &Curve)
+    ensures { Written (λ b. place_l (get_or out.old b 0) curve.now.levels.snr curve.now.levels.floor) bands.now.first bands.now.last out.old out.new }
 {
+    let q = curve.levels;
     let down = q.snr + q.floor - 960;
     let base = 160 - (11264 - q.floor) / 32;
     for b in bands.first..bands.last {
@@ -47,7 +48,7 @@ fn places(tables: &Tables, bands: &Bands, out: &mut [u32; 50], curve: &Curve)
     ensures { out.new ≡ places_l curve.now.gains curve.now.leaks curve.now.levels curve.now.deltas bands.now.powers.now bands.now.first bands.now.last }
 {
     bands.masks(tables.hth, out, curve);
-    place_bands(bands, out, curve.levels);
+    place_bands(bands, out, curve);
 }
 
 // The pointer of a bin whose power is w steps below 3072, in a band with its place in the table.
@@ -74,7 +75,7 @@ struct Lookup<'a> {
 impl<'a> Lookup<'a> {
     // The pointers of the bins lo .. hi - 1 of a band with its place in the table, and the sum of their shares.
     fn point(&self, out: &mut [u8], lo: usize, hi: usize, place: usize) -> u64
-        requires { (lo ≤ hi) × (hi ≤ 256) × (place ≤ 927) × (length out.old ≡ 256) }
+        requires { (lo ≤ hi) × (hi ≤ 256) × (hi ≤ length out.old) × (place ≤ 927) }
         ensures { Pointed self.now.tables.now.shares.now (point_l self.now.tables.now.points.now self.now.powers.now place) lo hi out.old out.new result }
     {
         let points = self.tables.points;
@@ -91,7 +92,7 @@ impl<'a> Lookup<'a> {
 
     // The same of the bins from .. to - 1 below 28, each of which is a band.
     fn point_singles(&self, out: &mut [u8], from: usize, to: usize) -> u64
-        requires { (from ≤ to) × (to ≤ max from 28) × (length out.old ≡ 256) }
+        requires { (from ≤ to) × (to ≤ max from 28) × (to ≤ length out.old) }
         ensures { Pointed self.now.tables.now.shares.now (pointer_l self.now.tables.now.points.now self.now.base self.now.powers.now self.now.places.now) from to out.old out.new result }
     {
         let points = self.tables.points;
@@ -117,7 +118,7 @@ impl<'a> Lookup<'a> {
         first: usize,
         last: usize,
     ) -> u64
-        requires within { (start ≤ end) × (end ≤ 253) × (length out.old ≡ 256) }
+        requires within { (start ≤ end) × (end ≤ 253) × (end ≤ length out.old) }
         requires some { start < end → (first ≡ band_of start) × (last ≡ band_of (end - 1) + 1) }
         requires none { end ≤ start → last ≤ first }
         ensures { Pointed self.now.tables.now.shares.now (pointer_l self.now.tables.now.points.now self.now.base self.now.powers.now self.now.places.now) start end out.old out.new result }
@@ -134,7 +135,7 @@ impl<'a> Lookup<'a> {
 
     // The same of the bins start .. end - 1, which are in the bands first .. last - 1: those below 28, and the others.
     fn point_all(&self, out: &mut [u8], start: usize, end: usize, first: usize, last: usize) -> u64
-        requires within { (start < end) × (end ≤ 253) × (length out.old ≡ 256) }
+        requires within { (start < end) × (end ≤ 253) × (end ≤ length out.old) }
         requires bands { (first ≡ band_of start) × (last ≡ band_of (end - 1) + 1) }
         ensures { Pointed self.now.tables.now.shares.now (pointer_l self.now.tables.now.points.now self.now.base self.now.powers.now self.now.places.now) start end out.old out.new result }
     {
@@ -163,20 +164,13 @@ pub fn no_bins(out: &mut [u8])
 }
 
 // The pointers of a range that is not empty, on levels.
-fn allocate_some(
-    tables: &Tables,
-    exps: &[u8],
-    out: &mut [u8],
-    start: usize,
-    end: usize,
-    curve: &Curve,
-    base: usize,
-) -> u64
-    requires start_lt_end { (start < end) × (end ≤ 253) × Exponents exps.now start end × (length out.old ≡ 256) }
-    requires base_bound { base ≤ 512 }
-    ensures out_after { out.new ≡ allocation_l tables.now.points.now base exps.now start end curve.now.gains curve.now.leaks curve.now.levels curve.now.deltas }
-    ensures value { result ≡ shares_of tables.now.shares.now (allocation_l tables.now.points.now base exps.now start end curve.now.gains curve.now.leaks curve.now.levels curve.now.deltas) start (end - start) }
+fn allocate_some(tables: &Tables, bins: &Bins, out: &mut [u8], curve: &Curve, base: usize) -> u64
+    requires { (base ≤ 512) × (length out.old ≡ 256) }
+    ensures out_after { out.new ≡ allocation_l tables.now.points.now base bins.now.exps.now bins.now.start bins.now.end curve.now.gains curve.now.leaks curve.now.levels curve.now.deltas }
+    ensures value { result ≡ shares_of tables.now.shares.now (allocation_l tables.now.points.now base bins.now.exps.now bins.now.start bins.now.end curve.now.gains curve.now.leaks curve.now.levels curve.now.deltas) bins.now.start (bins.now.end - bins.now.start) }
 {
+    let start = bins.start;
+    let end = bins.end;
     let first = band_of(tables, start);
     let last = band_of(tables, end - 1) + 1;
     let mut sums = [8192u32; 50];
@@ -184,11 +178,9 @@ fn allocate_some(
     band_sums::bands(
         tables.latab,
         tables.ends,
-        exps,
+        bins,
         &mut powers,
         &mut sums,
-        start,
-        end,
         first,
     );
     let bands = Bands {
@@ -217,19 +209,6 @@ fn level(x: i32) -> u32
     (x + 8192) as u32
 }
 
-fn levels_of(p: Params, csnroffst: u8, fsnroffst: u8) -> Levels
-    requires { Tuned p }
-    ensures { (result ≡ levels_of p csnroffst fsnroffst) × Levelled result }
-{
-    let f = p.floor;
-    Levels {
-        knee: 8192 + p.dbknee,
-        floor: level(f),
-        snr: 64 * u32::from(csnroffst) + 4 * u32::from(fsnroffst),
-        fscod: p.fscod,
-    }
-}
-
 fn leaks_of(l: Option<Leak>) -> Leaks
     requires { (fast_of l ≤ 2560) × (slow_of l ≤ 2560) }
     ensures { (result ≡ leaks_of l) × Leaking result }
@@ -254,16 +233,21 @@ fn curve_of(c: Channel, p: Params, l: Option<Leak>, d: Deltas) -> Curve
     ensures levels { result.levels ≡ levels_of p c.csnroffst c.fsnroffst }
     ensures deltas { result.deltas ≡ d }
 {
-    let gains = Gains {
-        fgain: c.fgain,
-        sgain: p.sgain,
-        fdecay: p.fdecay,
-        sdecay: p.sdecay,
-    };
+    let floor = p.floor;
     Curve {
-        gains,
+        gains: Gains {
+            fgain: c.fgain,
+            sgain: p.sgain,
+            fdecay: p.fdecay,
+            sdecay: p.sdecay,
+        },
         leaks: leaks_of(l),
-        levels: levels_of(p, c.csnroffst, c.fsnroffst),
+        levels: Levels {
+            knee: 8192 + p.dbknee,
+            floor: level(floor),
+            snr: 64 * u32::from(c.csnroffst) + 4 * u32::from(c.fsnroffst),
+            fscod: p.fscod,
+        },
         deltas: d,
     }
 }
@@ -298,6 +282,11 @@ pub fn allocate(
         no_bins(out);
         return 0;
     }
+    let bins = Bins {
+        exps,
+        start: c.start,
+        end: c.end,
+    };
     let curve = curve_of(c, p, l, d);
-    allocate_some(tables, exps, out, c.start, c.end, &curve, base_of(kind))
+    allocate_some(tables, &bins, out, &curve, base_of(kind))
 }

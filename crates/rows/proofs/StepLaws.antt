@@ -11,7 +11,7 @@ use Rattle.derivations.specs.Acted.{acted}
 use Rattle.derivations.specs.Derivations.{derived}
 use Rattle.rows.specs.Syntax.{Value, amount_of, number_of, filled}
 use Rattle.rows.specs.declared.kinds.Kind.{Kind}
-use Rattle.rows.specs.declared.kinds.Kind.TheVariants.{Element, Span, Mantissas, Condition, Assignment, Refusal, Derivation, Comparison, Loop, Exponents}
+use Rattle.rows.specs.declared.kinds.Kind.TheVariants.{Element, Counted, Repeated, Span, Mantissas, Condition, Assignment, Refusal, Derivation, Comparison, Loop, Exponents}
 use Rattle.rows.specs.Kinds.{IsKind}
 use Rattle.rows.specs.Rows.{masked, compares, mask_in, at_in, rows_in, number_in, skip_of, put_at_in, of_in, x_in, y_in, value_in, filled_in, many_in, relation_in, compared_in, with_in, failure_in, stop_in, act_in, row_of}
 use Rattle.rows.specs.Steps.{deals, dealing, step_of, Dealt}
@@ -52,9 +52,54 @@ pub fill-ends : (w : ℕ) (m : List ℕ) (a : ℕ) → a ≡ held_of (of_in w) m
     → x ≡ filled (many_in w) (filled_in w) (x_in w + y_in w * held_of (of_in w) m) m
 fill-ends w m a ea v ev k ek i x e h = rw (e, h, ek, ev, ea) refl
 
+-- a row of another kind has another number
+pub only-element : (r : Kind) (k : ℕ) → IsKind r k → ¬ (r ≡ Element) → ¬ (k ≡ 0)
+only-element Element k i n e = n refl
+only-element Counted k i n e = let z : ⊥ = omega arith in z
+only-element Repeated k i n e = let z : ⊥ = omega arith in z
+only-element Span k i n e = let z : ⊥ = omega arith in z
+only-element Mantissas k i n e = let z : ⊥ = omega arith in z
+only-element Condition k i n e = let z : ⊥ = omega arith in z
+only-element Assignment k i n e = let z : ⊥ = omega arith in z
+only-element Refusal k i n e = let z : ⊥ = omega arith in z
+only-element Derivation k i n e = let z : ⊥ = omega arith in z
+only-element Comparison k i n e = let z : ⊥ = omega arith in z
+only-element Loop k i n e = let z : ⊥ = omega arith in z
+only-element Exponents k i n e = let z : ⊥ = omega arith in z
+
+pub only-repeated : (r : Kind) (k : ℕ) → IsKind r k → ¬ (r ≡ Repeated) → ¬ (k ≡ 2)
+only-repeated Element k i n e = let z : ⊥ = omega arith in z
+only-repeated Counted k i n e = let z : ⊥ = omega arith in z
+only-repeated Repeated k i n e = n refl
+only-repeated Span k i n e = let z : ⊥ = omega arith in z
+only-repeated Mantissas k i n e = let z : ⊥ = omega arith in z
+only-repeated Condition k i n e = let z : ⊥ = omega arith in z
+only-repeated Assignment k i n e = let z : ⊥ = omega arith in z
+only-repeated Refusal k i n e = let z : ⊥ = omega arith in z
+only-repeated Derivation k i n e = let z : ⊥ = omega arith in z
+only-repeated Comparison k i n e = let z : ⊥ = omega arith in z
+only-repeated Loop k i n e = let z : ⊥ = omega arith in z
+only-repeated Exponents k i n e = let z : ⊥ = omega arith in z
+
+pub only-comparison : (r : Kind) (k : ℕ) → IsKind r k → ¬ (r ≡ Comparison) → ¬ (k ≡ 13)
+only-comparison Element k i n e = let z : ⊥ = omega arith in z
+only-comparison Counted k i n e = let z : ⊥ = omega arith in z
+only-comparison Repeated k i n e = let z : ⊥ = omega arith in z
+only-comparison Span k i n e = let z : ⊥ = omega arith in z
+only-comparison Mantissas k i n e = let z : ⊥ = omega arith in z
+only-comparison Condition k i n e = let z : ⊥ = omega arith in z
+only-comparison Assignment k i n e = let z : ⊥ = omega arith in z
+only-comparison Refusal k i n e = let z : ⊥ = omega arith in z
+only-comparison Derivation k i n e = let z : ⊥ = omega arith in z
+only-comparison Comparison k i n e = n refl
+only-comparison Loop k i n e = let z : ⊥ = omega arith in z
+only-comparison Exponents k i n e = let z : ⊥ = omega arith in z
+
 -- of the rows that read nothing and derive nothing, one that neither assigns nor refuses by a mask compares
 pub compared-kind : (r : Kind) (k : ℕ) → IsKind r k → ¬ (r ≡ Assignment) → ¬ (r ≡ Refusal) → 10 ≤ k → k < 14 → ¬ (k ≡ 12) → k ≡ 13
 compared-kind Element k i a n l h d = omega arith
+compared-kind Counted k i a n l h d = omega arith
+compared-kind Repeated k i a n l h d = omega arith
 compared-kind Span k i a n l h d = omega arith
 compared-kind Mantissas k i a n l h d = omega arith
 compared-kind Condition k i a n l h d = omega arith

@@ -1,7 +1,7 @@
 -- What the code's kinds, forms and relations say of a row's number.
 use Rattle.std.specs.Prelude.{ℕ, ◌≡◌, ◌<◌, ◌≤◌}
 use Rattle.rows.specs.declared.kinds.Kind.{Kind}
-use Rattle.rows.specs.declared.kinds.Kind.TheVariants.{Element, Span, Mantissas, Condition, Assignment, Refusal, Derivation, Comparison, Loop, Exponents}
+use Rattle.rows.specs.declared.kinds.Kind.TheVariants.{Element, Counted, Repeated, Span, Mantissas, Condition, Assignment, Refusal, Derivation, Comparison, Loop, Exponents}
 use Rattle.rows.specs.declared.kinds.Form.{Form}
 use Rattle.rows.specs.declared.kinds.Form.TheVariants.{Here, Let, Less, Plus, Minus}
 use Rattle.rows.specs.declared.kinds.Relation.{Relation}
@@ -11,7 +11,9 @@ use Rattle.rows.specs.Rows.{Relation as Compared, differs, over, under, at_least
 
 -- the last four bits of a row's number say its kind
 abbrev pub IsKind : Kind → ℕ → Type 0
-IsKind Element k = k < 3
+IsKind Element k = k ≡ 0
+IsKind Counted k = k ≡ 1
+IsKind Repeated k = k ≡ 2
 IsKind Span k = k ≡ 3
 IsKind Mantissas k = (4 ≤ k) × (k < 8)
 IsKind Condition k = (8 ≤ k) × (k < 10)

@@ -15,6 +15,7 @@ ghost use Rattle.std.specs.Prelude.{◌≡◌, ◌/◌, ◌%◌, ◌^◌, ◌<�
 ghost use Rattle.cells.specs.Cells.{place_of, sum_of, addr, signed};
 ghost use Rattle.rows.specs.Rows.{name_in, width_in, keep_in, index_in, slot_in};
 
+use crate::kinds::Kind;
 use cells::cell_of;
 
 // The field of so many bits of a row's number, from the bit `first` on.
@@ -45,15 +46,14 @@ pub fn spot(base: usize, by: usize, row: usize, cells: &[u16; 1024]) -> usize
     base + usize::from(cell_of(cells, by)) + 8 * usize::from(cell_of(cells, row))
 }
 
-// The cell that keeps an element. An element of kind 0 has no counters.
+// The cell that keeps an element. A plain element has no counters.
 pub fn keep_of(w: u64, cells: &[u16; 1024]) -> usize
     ensures { (result ≡ place_of (keep_in w) cells.now) × (result ≤ 590838) }
 {
     let base = field(w, 17, 10);
-    if w % 16 == 0 {
-        base
-    } else {
-        spot(base, field(w, 27, 5), field(w, 32, 4), cells)
+    match Kind::of(w) {
+        Kind::Element => base,
+        _ => spot(base, field(w, 27, 5), field(w, 32, 4), cells),
     }
 }
 
@@ -62,10 +62,9 @@ pub fn index_of(w: u64, cells: &[u16; 1024]) -> u32
     ensures { result ≡ sum_of (index_in w) cells.now }
 {
     let number = field(w, 36, 3) as u32;
-    if w % 16 == 0 {
-        number
-    } else {
-        number + cell_of(cells, field(w, 39, 5)) as u32
+    match Kind::of(w) {
+        Kind::Element => number,
+        _ => number + cell_of(cells, field(w, 39, 5)) as u32,
     }
 }
 
@@ -78,6 +77,7 @@ pub fn slot_of(w: u64, cells: &[u16; 1024]) -> u8
 }
 
 // A part of a record, of a number that is one more.
+// Stays: two functions; one over both types would need a trait for a line each, which is no plainer.
 pub fn block_part(n: u16) -> i8
     ensures { result ≡ signed 128 n }
 {

@@ -8,7 +8,9 @@ use crate::fields::field;
 // The kind of a row.
 #[derive(Clone, Copy, PartialEq, Eq)]
 pub enum Kind {
-    Element,
+    Element, // without counters
+    Counted, // an element with counters
+    Repeated, // an element for each number of a counter
     Span,
     Mantissas,
     Condition,
@@ -26,7 +28,9 @@ impl Kind {
         ensures { IsKind result (w % 16) }
     {
         match field(w, 0, 4) {
-            0..=2 => Kind::Element,
+            0 => Kind::Element,
+            1 => Kind::Counted,
+            2 => Kind::Repeated,
             3 => Kind::Span,
             4..=7 => Kind::Mantissas,
             8 | 9 => Kind::Condition,

@@ -152,10 +152,9 @@ pub fn deal(w: u64, at: BitPlace, cells: &mut [u16; 1024]) -> Result<(), Refusal
 pub fn stop_at(w: u64, at: BitPlace, cells: &[u16; 1024]) -> BitPlace
     ensures { result.0 ≡ at.0 + (cell_of cells.now (stop_in w) - at.0) }
 {
-    if w % 16 == 13 {
-        BitPlace(at.0.max(cell_of(cells, field(w, 28, 10))))
-    } else {
-        at
+    match Kind::of(w) {
+        Kind::Comparison => BitPlace(at.0.max(cell_of(cells, field(w, 28, 10)))),
+        _ => at,
     }
 }
 
@@ -196,7 +195,7 @@ pub fn last_of(w: u64, left: u32, last: u32, cells: &[u16; 1024]) -> u32
 {
     if left != 0 {
         last
-    } else if w % 16 == 2 {
+    } else if let Kind::Repeated = Kind::of(w) {
         cell_of(cells, field(w, 44, 10)) as u32
     } else {
         1
@@ -208,7 +207,7 @@ pub fn more_of(w: u64, left: u32, last: u32) -> u32
 {
     if left != 0 {
         left
-    } else if w % 16 == 2 {
+    } else if let Kind::Repeated = Kind::of(w) {
         last.saturating_sub(field(w, 54, 1) as u32)
     } else {
         last
@@ -219,7 +218,7 @@ pub fn more_of(w: u64, left: u32, last: u32) -> u32
 pub fn mark(w: u64, cells: &mut [u16; 1024], j: u32)
     ensures { cells.new ≡ put_in cells.old (counter_in w) j }
 {
-    if w % 16 == 2 {
+    if let Kind::Repeated = Kind::of(w) {
         put(cells, field(w, 55, 5), j);
     }
 }

@@ -4,7 +4,7 @@
 // words cannot be set a line on standard error says why, and nothing is written.
 #![tactic(auto)]
 
-ghost use Rattle.std.specs.Prelude.{◌≤◌, length};
+ghost use Rattle.std.specs.Prelude.{◌≤◌, length, IfOk};
 
 use answer::{Answer, Verdict};
 use ingest::records_of;
@@ -13,43 +13,58 @@ use mastering::set_words;
 use print::{decimal, number, put};
 use std::env::{Env, FillError};
 use std::io::Result;
-use word_items::{NO_NAME, NO_NUMBER, Place, last, name_of, number_of, place_of};
+use word_items::{Unplaced, last, name_of, number_of, place_of};
 
-// What an item asks for. The fault is 0; 1, it cannot be understood; 2, the frame has no such word; 3, it has more than one.
+// What an item asks for: a place of the list, and the word that is set there.
 #[derive(Clone, Copy)]
 struct Item {
     place: usize,
     word: u32,
-    fault: u8,
 }
 
-fn faulty(fault: u8) -> Item {
-    Item {
-        place: 0,
-        word: 0,
-        fault: fault,
+// Why an item asks for nothing: it cannot be understood, the frame has no such word, or it has more than one.
+#[derive(Clone, Copy, PartialEq, Eq, Debug)]
+enum Fault {
+    Unclear,
+    Absent,
+    Repeated,
+}
+
+impl From<Unplaced> for Fault {
+    fn from(unplaced: Unplaced) -> Fault {
+        match unplaced {
+            Unplaced::Nowhere => Fault::Absent,
+            Unplaced::Twice => Fault::Repeated,
+        }
     }
 }
 
-fn at_place(place: usize, value: u64) -> Item {
-    if NO_NUMBER <= value {
-        return faulty(1);
-    }
-    Item {
-        place: place,
-        word: value as u32,
-        fault: 0,
-    }
-}
-
-fn found(place: Place, value: u64) -> Item {
-    match place {
-        Place::At(at) => at_place(at, value),
-        Place::Nowhere => faulty(2),
-        Place::Twice => faulty(3),
+impl Fault {
+    fn why(self) -> &'static [u8] {
+        match self {
+            Fault::Unclear => b"is no WORD=VALUE, WORD[BLOCK]=VALUE or PLACE=VALUE\n",
+            Fault::Absent => b"names a word that the frame does not have\n",
+            Fault::Repeated => b"names a word that the frame has more than once: say its block\n",
+        }
     }
 }
 
+// The first fault among some items, and the ordinal of its item.
+#[derive(Clone, Copy)]
+struct Faulty {
+    ordinal: usize,
+    fault: Fault,
+}
+
+// The items of up to 17 arguments: 17 are too many already.
+#[derive(Drop)]
+struct Items {
+    places: [usize; 17],
+    words: [u32; 17],
+    size: usize,
+}
+
+// A block as a byte; 255 outside the blocks.
 fn byte_of(block: i8) -> u8 {
     match block {
         0 => 0,
@@ -62,21 +77,12 @@ fn byte_of(block: i8) -> u8 {
     }
 }
 
-// The blocks of a list as bytes; 255 outside the blocks.
-fn as_bytes(blocks: [i8; 2048]) -> [u8; 2048] {
+fn as_bytes(blocks: &[i8; 2048]) -> [u8; 2048] {
     let mut bytes = [255u8; 2048];
-    let mut i = 0;
-    while i < 2048 {
-        bytes[i] = byte_of(blocks[i]);
-        i += 1;
+    for (byte, block) in bytes.iter_mut().zip(blocks) {
+        *byte = byte_of(*block);
     }
     bytes
-}
-
-fn up_to(n: usize, most: usize) -> usize
-    ensures { (result ≤ n) × (result ≤ most) }
-{
-    if n < most { n } else { most }
 }
 
 // Whether there is an argument, of any length.
@@ -93,307 +99,144 @@ fn is_given(rt: &HostRuntime, i: usize) -> bool {
 fn up_to_17(rt: &HostRuntime) -> usize
     ensures { result ≤ 17 }
 {
-    let mut n = 0;
-    while n < 17 && is_given(rt, n + 1) {
-        n += 1;
+    for n in 0..17 {
+        if !is_given(rt, n + 1) {
+            return n;
+        }
     }
-    n
+    17
 }
 
-// A word by its name and, in brackets, its block.
-fn by_name(
-    text: &[u8],
-    end: usize,
-    value: u64,
-    names: &[u8; 2048],
-    blocks: &[u8; 2048],
-    count: usize,
-) -> Item
-    requires { (end ≤ length text.now) × (count ≤ 2048) }
-{
-    let bracket = up_to(last(text, end, b'['), end);
-    let name = name_of(text, bracket);
-    if name == NO_NAME {
-        return faulty(1);
+// A block in brackets, from the byte behind the first of them on.
+fn block_of(text: &[u8]) -> Option<u8> {
+    match text {
+        [digits @ .., b']'] => u8::try_from(number_of(digits)?).ok(),
+        _ => None,
     }
-    if bracket == end {
-        return found(place_of(names, blocks, count, name, 0, true), value);
+}
+
+// The place of a word by its name and, in brackets, its block.
+fn by_name(text: &[u8], names: &[u8], blocks: &[u8]) -> std::result::Result<usize, Fault> {
+    match last(text, b'[') {
+        None => {
+            let name = name_of(text).ok_or(Fault::Unclear)?;
+            Ok(place_of(names, blocks, name, None)?)
+        }
+        Some(bracket) => {
+            let name = name_of(&text[..bracket]).ok_or(Fault::Unclear)?;
+            let block = block_of(&text[bracket + 1..]).ok_or(Fault::Unclear)?;
+            Ok(place_of(names, blocks, name, Some(block))?)
+        }
     }
-    if text[end - 1] != b']' {
-        return faulty(1);
-    }
-    let block = number_of(text, bracket + 1, end - 1);
-    if 256 <= block {
-        return faulty(1);
-    }
-    found(
-        place_of(names, blocks, count, name, block as u8, false),
-        value,
-    )
 }
 
 // An item by its text.
-fn item_of(text: &[u8], names: &[u8; 2048], blocks: &[u8; 2048], count: usize) -> Item
-    requires { count ≤ 2048 }
-{
-    let end = text.len();
-    let equal = up_to(last(text, end, b'='), end);
-    if equal == end {
-        return faulty(1);
-    }
-    let value = number_of(text, equal + 1, end);
-    if NO_NUMBER <= value {
-        return faulty(1);
-    }
-    let place = number_of(text, 0, equal);
-    if place < NO_NUMBER {
-        return at_place(place as usize, value);
-    }
-    by_name(text, equal, value, names, blocks, count)
-}
-
-// The items of up to 17 arguments: 17 are too many already. The fault is that of the first that has one, and stopped is its ordinal.
-#[derive(Drop)]
-struct Items {
-    places: [usize; 17],
-    words: [u32; 17],
-    size: usize,
-    fault: u8,
-    stopped: usize,
+fn item_of(text: &[u8], names: &[u8], blocks: &[u8]) -> std::result::Result<Item, Fault> {
+    let equal = last(text, b'=').ok_or(Fault::Unclear)?;
+    let word = number_of(&text[equal + 1..]).ok_or(Fault::Unclear)?;
+    let place = match number_of(&text[..equal]) {
+        Some(place) => place as usize,
+        None => by_name(&text[..equal], names, blocks)?,
+    };
+    Ok(Item { place, word })
 }
 
 // The bytes of an argument, or none where it has more than there is room for.
 fn argument(rt: &HostRuntime, i: usize, text: &mut [u8]) -> usize
     ensures { result ≤ length text.new }
 {
-    match rt.arg(i, text) {
-        Ok(n) => n,
-        Err(_) => 0,
-    }
+    rt.arg(i, text).unwrap_or(0)
 }
 
 fn item_at(
     rt: &HostRuntime,
     i: usize,
-    names: &[u8; 2048],
-    blocks: &[u8; 2048],
-    count: usize,
-) -> Item
-    requires { count ≤ 2048 }
-{
+    names: &[u8],
+    blocks: &[u8],
+) -> std::result::Result<Item, Fault> {
     let mut text = [0u8; 64];
     let n = argument(rt, i, &mut text);
-    item_of(&text[..n], names, blocks, count)
+    item_of(&text[..n], names, blocks)
 }
 
-fn items_of(rt: &HostRuntime, n: usize, r: Records, count: usize) -> Items
-    requires { (n ≤ 17) × (count ≤ 2048) }
+// The items of so many arguments, or the first fault.
+fn items_of(
+    rt: &HostRuntime,
+    size: usize,
+    names: &[u8],
+    blocks: &[u8],
+) -> std::result::Result<Items, Faulty>
+    requires { size ≤ 17 }
+    ensures { IfOk result (λ items. items.size ≤ 17) }
 {
-    let names = r.names;
-    let signed = r.blocks;
-    let blocks = as_bytes(signed);
-    let mut places = [0usize; 17];
-    let mut words = [0u32; 17];
-    let mut fault = 0;
-    let mut t = 0;
-    while t < n && fault == 0 {
-        let item = item_at(rt, t + 1, &names, &blocks, count);
-        places[t] = item.place;
-        words[t] = item.word;
-        fault = item.fault;
-        t += 1;
+    let mut places = [0; 17];
+    let mut words = [0; 17];
+    for t in 0..size {
+        match item_at(rt, t + 1, names, blocks) {
+            Ok(item) => {
+                places[t] = item.place;
+                words[t] = item.word;
+            }
+            Err(fault) => {
+                return Err(Faulty {
+                    ordinal: t + 1,
+                    fault,
+                });
+            }
+        }
     }
-    Items {
-        places: places,
-        words: words,
-        size: n,
-        fault: fault,
-        stopped: t,
-    }
-}
-
-fn tell(rt: &HostRuntime, text: &[u8], size: usize) -> Result<()>
-    requires { size ≤ length text.now }
-{
-    rt.stderr().write_all(&text[..size])
-}
-
-fn why_item(fault: u8, out: &mut [u8], at: usize) -> usize {
-    if fault == 1 {
-        return put(
-            out,
-            at,
-            b"is no WORD=VALUE, WORD[BLOCK]=VALUE or PLACE=VALUE\n",
-        );
-    }
-    if fault == 2 {
-        return put(out, at, b"names a word that the frame does not have\n");
-    }
-    put(
-        out,
-        at,
-        b"names a word that the frame has more than once: say its block\n",
-    )
+    Ok(Items {
+        places,
+        words,
+        size,
+    })
 }
 
 // Which item is faulty, and why.
-fn tell_item(rt: &HostRuntime, fault: u8, ordinal: usize) -> Result<()> {
+fn tell_item(rt: &HostRuntime, faulty: Faulty) -> Result<()> {
     let mut out = [0u8; 128];
     let at = put(&mut out, 0, b"item ");
-    let at = number(&mut out, at, ordinal as u64, b' ');
-    let at = why_item(fault, &mut out, at);
-    tell(rt, &out, up_to(at, 128))
-}
-
-// Refusals of the header.
-fn why_header(refusal: u8, out: &mut [u8], at: usize) -> usize {
-    if refusal == 1 {
-        return put(out, at, b": fewer than 6 bytes\n");
-    }
-    if refusal == 2 {
-        return put(out, at, b": no sync word 0B77\n");
-    }
-    if refusal == 3 {
-        return put(out, at, b": strmtyp is 3, which is reserved\n");
-    }
-    if refusal == 4 {
-        return put(out, at, b": fewer bytes than the frame announces\n");
-    }
-    if refusal == 5 {
-        return put(
-            out,
-            at,
-            b": fscod is 3, reduced sample rates, which are not read\n",
-        );
-    }
-    if refusal == 6 {
-        return put(out, at, b": bsid is not 11 to 16: no E-AC-3 frame\n");
-    }
-    if refusal == 7 {
-        return put(out, at, b": snroffststr is 3, which is reserved\n");
-    }
-    put(out, at, b": an element passes the frame's end\n")
-}
-
-// Refusals of the audio blocks, by single elements.
-fn why_audio(refusal: u8, out: &mut [u8], at: usize) -> usize {
-    if refusal == 9 {
-        return put(out, at, b": enhanced coupling, which is not read\n");
-    }
-    if refusal == 10 {
-        return put(out, at, b": chbwcod is above 60\n");
-    }
-    if refusal == 11 {
-        return put(out, at, b": a grouped exponent is above 124\n");
-    }
-    if refusal == 12 {
-        return put(out, at, b": a delta code is 3, which is reserved\n");
-    }
-    if refusal == 13 {
-        return put(out, at, b": a composite GAQ gain is above 26\n");
-    }
-    if refusal == 20 {
-        return put(
-            out,
-            at,
-            b": the mixing data have more bits than mixdeflen says\n",
-        );
-    }
-    put(
-        out,
-        at,
-        b": spectral extension begins at or after its end\n",
-    )
-}
-
-// Refusals of the audio blocks, by what was sent before.
-fn why_state(refusal: u8, out: &mut [u8], at: usize) -> usize {
-    if refusal == 22 {
-        return put(out, at, b": coupling has less than one sub-band\n");
-    }
-    if refusal == 23 {
-        return put(out, at, b": a bandwidth was never sent\n");
-    }
-    if refusal == 24 {
-        return put(
-            out,
-            at,
-            b": coupling exponents are reused that are not held\n",
-        );
-    }
-    if refusal == 25 {
-        return put(
-            out,
-            at,
-            b": exponents of a channel are reused that are not held\n",
-        );
-    }
-    if refusal == 26 {
-        return put(out, at, b": LFE exponents are reused that are not held\n");
-    }
-    if refusal == 27 {
-        return put(out, at, b": an exponent leaves 0 to 24\n");
-    }
-    if refusal == 28 {
-        return put(out, at, b": a delta code 0 in block 0\n");
-    }
-    put(out, at, b": bit allocation parameters were never sent\n")
-}
-
-// Refusals of the tail and the rooms.
-fn why_tail(refusal: u8, out: &mut [u8], at: usize) -> usize {
-    if refusal == 30 {
-        return put(out, at, b": fewer than 18 bits are left after the audio\n");
-    }
-    if refusal == 31 {
-        return put(
-            out,
-            at,
-            b": auxdatae is 1 and fewer than 32 bits are left after the audio\n",
-        );
-    }
-    if refusal == 32 {
-        return put(out, at, b": auxdatal is more than auxbits\n");
-    }
-    put(out, at, b": the frame has more than 2,048 records\n")
-}
-
-// Refusals of the items.
-fn why_items(refusal: u8, out: &mut [u8], at: usize) -> usize {
-    if refusal == 41 {
-        return put(out, at, b": a place is beyond the list\n");
-    }
-    if refusal == 42 {
-        return put(
-            out,
-            at,
-            b": a record is not dialnorm, compr, dynrng or one of those of a second programme\n",
-        );
-    }
-    if refusal == 43 {
-        return put(out, at, b": a value has more bits than its word\n");
-    }
-    if refusal == 47 {
-        return put(out, at, b": a place is listed twice\n");
-    }
-    put(out, at, b": more than 16 items\n")
+    let at = number(&mut out, at, faulty.ordinal as u64, b' ');
+    let at = put(&mut out, at, faulty.fault.why());
+    rt.stderr().write_all(&out[..at.min(128)])
 }
 
 // What a refusal means.
-fn why(refusal: u8, out: &mut [u8], at: usize) -> usize {
-    if refusal < 9 {
-        return why_header(refusal, out, at);
+fn why(refusal: u8) -> &'static [u8] {
+    match refusal {
+        1 => b": fewer than 6 bytes\n",
+        2 => b": no sync word 0B77\n",
+        3 => b": strmtyp is 3, which is reserved\n",
+        4 => b": fewer bytes than the frame announces\n",
+        5 => b": fscod is 3, reduced sample rates, which are not read\n",
+        6 => b": bsid is not 11 to 16: no E-AC-3 frame\n",
+        7 => b": snroffststr is 3, which is reserved\n",
+        ..=8 => b": an element passes the frame's end\n",
+        9 => b": enhanced coupling, which is not read\n",
+        10 => b": chbwcod is above 60\n",
+        11 => b": a grouped exponent is above 124\n",
+        12 => b": a delta code is 3, which is reserved\n",
+        13 => b": a composite GAQ gain is above 26\n",
+        20 => b": the mixing data have more bits than mixdeflen says\n",
+        ..=21 => b": spectral extension begins at or after its end\n",
+        22 => b": coupling has less than one sub-band\n",
+        23 => b": a bandwidth was never sent\n",
+        24 => b": coupling exponents are reused that are not held\n",
+        25 => b": exponents of a channel are reused that are not held\n",
+        26 => b": LFE exponents are reused that are not held\n",
+        27 => b": an exponent leaves 0 to 24\n",
+        28 => b": a delta code 0 in block 0\n",
+        29 => b": bit allocation parameters were never sent\n",
+        30 => b": fewer than 18 bits are left after the audio\n",
+        31 => b": auxdatae is 1 and fewer than 32 bits are left after the audio\n",
+        32 => b": auxdatal is more than auxbits\n",
+        33 => b": the frame has more than 2,048 records\n",
+        41 => b": a place is beyond the list\n",
+        42 => b": a record is not dialnorm, compr, dynrng or one of those of a second programme\n",
+        43 => b": a value has more bits than its word\n",
+        47 => b": a place is listed twice\n",
+        _ => b": more than 16 items\n",
     }
-    if refusal < 22 {
-        return why_audio(refusal, out, at);
-    }
-    if refusal < 30 {
-        return why_state(refusal, out, at);
-    }
-    if refusal < 34 {
-        return why_tail(refusal, out, at);
-    }
-    why_items(refusal, out, at)
 }
 
 // A refusal: number, bit place, and what it means.
@@ -403,8 +246,8 @@ fn tell_refusal(rt: &HostRuntime, refusal: u8, place: u64) -> Result<()> {
     let at = number(&mut out, at, refusal as u64, b' ');
     let at = put(&mut out, at, b"at bit ");
     let at = decimal(&mut out, at, place);
-    let at = why(refusal, &mut out, at);
-    tell(rt, &out, up_to(at, 128))
+    let at = put(&mut out, at, why(refusal));
+    rt.stderr().write_all(&out[..at.min(128)])
 }
 
 fn pass_some(rt: &HostRuntime) -> Result<bool> {
@@ -416,20 +259,17 @@ fn pass_some(rt: &HostRuntime) -> Result<bool> {
 
 // Passes on the rest of the input.
 fn pass_rest(rt: &HostRuntime) -> Result<()> {
-    let mut turns = u64::MAX;
-    while turns != 0 {
+    for _ in 0..u64::MAX {
         if !pass_some(rt)? {
-            return Ok(());
+            break;
         }
-        turns -= 1;
     }
     Ok(())
 }
 
 // Writes the changed bytes and what follows them, or tells the refusal.
 fn answered(rt: &HostRuntime, answer: Answer, bytes: &[u8]) -> Result<()> {
-    let verdict = answer.verdict;
-    match verdict {
+    match answer.verdict {
         Verdict::Accepted => {
             print::write(rt, bytes, bytes.len())?;
             pass_rest(rt)
@@ -458,34 +298,31 @@ fn set(bytes: &mut [u8], places: &[usize], words: &[u32]) -> Answer {
     )
 }
 
-// The same with so many items of two lists.
-fn set_some(bytes: &mut [u8], places: &[usize], words: &[u32], size: usize) -> Answer {
-    let n = up_to(size, places.len());
-    let m = up_to(size, words.len());
-    set(bytes, &places[..n], &words[..m])
-}
-
-fn set_items(rt: &HostRuntime, bytes: &mut [u8], items: Items) -> Result<()> {
-    if items.fault != 0 {
-        return tell_item(rt, items.fault, items.stopped);
+// The items of a list of so many records set in its frame.
+fn set_items(rt: &HostRuntime, bytes: &mut [u8], read: Records, count: usize) -> Result<()>
+    requires { count ≤ 2048 }
+{
+    let names = read.names;
+    let blocks = as_bytes(&read.blocks);
+    match items_of(rt, up_to_17(rt), &names[..count], &blocks[..count]) {
+        Ok(items) => {
+            let answer = set(
+                bytes,
+                &items.places[..items.size],
+                &items.words[..items.size],
+            );
+            answered(rt, answer, bytes)
+        }
+        Err(faulty) => tell_item(rt, faulty),
     }
-    let places = items.places;
-    let words = items.words;
-    let answer = set_some(bytes, &places, &words, items.size);
-    answered(rt, answer, bytes)
 }
 
 // Of a refused frame no item is looked at.
 fn run(rt: &HostRuntime, bytes: &mut [u8]) -> Result<()> {
     let read = records_of(bytes);
     let answer = read.answer;
-    let verdict = answer.verdict;
-    match verdict {
-        Verdict::Accepted => {
-            let count = up_to(answer.frame.fields, 2048);
-            let n = up_to_17(rt);
-            set_items(rt, bytes, items_of(rt, n, read, count))
-        }
+    match answer.verdict {
+        Verdict::Accepted => set_items(rt, bytes, read, answer.frame.fields.min(2048)),
         Verdict::Refused(refusal, place, _) => tell_refusal(rt, refusal, place.0 as u64),
     }
 }

@@ -78,61 +78,51 @@ pub fn def_spx_bndstrc() -> [u8; 17]
     DEF_SPX_BNDSTRC
 }
 
-fn wide(x: u16) -> u32
-    ensures { result ≡ x }
+// An entry of a table by its code; for a code past the table, none.
+fn entry<T: Copy>(t: &[T], code: u8, none: T) -> T
+    ensures { result ≡ get_or t.now code none }
 {
-    x as u32
+    t.get(code as usize).copied().unwrap_or(none)
 }
 
-// An entry of a table of four, or of eight, by its code. A code past the table gives 0.
-fn of_four(t: [u16; 4], code: u8) -> u32
-    ensures { result ≡ get_or t code 0 }
-{
-    if code < 4 { wide(t[code as usize]) } else { 0 }
-}
-
-fn of_eight(t: [u16; 8], code: u8) -> u32
-    ensures { result ≡ get_or t code 0 }
-{
-    if code < 8 { wide(t[code as usize]) } else { 0 }
-}
-
+#[tactic(auto, unfolding(crate::specs::BitAllocation::slowdec))]
 pub fn slow_decay(sdcycod: u8) -> u32
     ensures { result ≡ get_or slowdec sdcycod 0 }
 {
-    of_four(SLOW_DECAY, sdcycod)
+    entry(&SLOW_DECAY, sdcycod, 0) as u32
 }
 
+#[tactic(auto, unfolding(crate::specs::BitAllocation::fastdec))]
 pub fn fast_decay(fdcycod: u8) -> u32
     ensures { result ≡ get_or fastdec fdcycod 0 }
 {
-    of_four(FAST_DECAY, fdcycod)
+    entry(&FAST_DECAY, fdcycod, 0) as u32
 }
 
+#[tactic(auto, unfolding(crate::specs::BitAllocation::slowgain))]
 pub fn slow_gain(sgaincod: u8) -> u32
     ensures { result ≡ get_or slowgain sgaincod 0 }
 {
-    of_four(SLOW_GAIN, sgaincod)
+    entry(&SLOW_GAIN, sgaincod, 0) as u32
 }
 
+#[tactic(auto, unfolding(crate::specs::BitAllocation::fastgain))]
 pub fn fast_gain(fgaincod: u8) -> u32
     ensures { result ≡ get_or fastgain fgaincod 0 }
 {
-    of_eight(FAST_GAIN, fgaincod)
+    entry(&FAST_GAIN, fgaincod, 0) as u32
 }
 
+#[tactic(auto, unfolding(crate::specs::BitAllocation::dbpbtab))]
 pub fn db_knee(dbpbcod: u8) -> u32
     ensures { result ≡ get_or dbpbtab dbpbcod 0 }
 {
-    of_four(DB_KNEE, dbpbcod)
+    entry(&DB_KNEE, dbpbcod, 0) as u32
 }
 
+#[tactic(auto, unfolding(crate::specs::BitAllocation::floortab))]
 pub fn floor(floorcod: u8) -> i32
     ensures { result ≡ get_or floortab floorcod (pos 0) }
 {
-    if floorcod < 8 {
-        FLOOR[floorcod as usize]
-    } else {
-        0
-    }
+    entry(&FLOOR, floorcod, 0)
 }

@@ -2,8 +2,6 @@
 // the records of each: first bit, width, name, block, index, value.
 #![tactic(auto)]
 
-ghost use Rattle.std.specs.Prelude.{◌<◌, ◌≤◌};
-
 use print::{number, put, signed, signed_byte};
 use std::io::Result;
 use syntax::Cursor;
@@ -54,14 +52,10 @@ fn lines(
     indexes: [i16; 128],
     values: [u32; 128],
 ) -> Result<()> {
-    let mut i = 0;
-    while i < 128 {
-        if i < count {
-            line(
-                rt, firsts[i], widths[i], names[i], blocks[i], indexes[i], values[i],
-            )?;
-        }
-        i += 1;
+    for i in 0..count.min(128) {
+        line(
+            rt, firsts[i], widths[i], names[i], blocks[i], indexes[i], values[i],
+        )?;
     }
     Ok(())
 }
@@ -86,24 +80,14 @@ fn run(rt: &HostRuntime, frame: &[u8]) -> Result<()> {
     lines(rt, c.count, firsts, widths, names, blocks, indexes, values)
 }
 
-fn end_of(at: usize, n: usize, len: u8) -> usize
-    requires { at < n }
-    ensures { (at < result) × (result ≤ n) }
-{
-    let step = 1 + len as usize;
-    if step < n - at { at + step } else { n }
-}
-
 fn main(rt: HostRuntime) -> Result<()> {
     let mut input = [0u8; 4096];
     let n = print::read_full(&mut rt.stdin(), &mut input)?;
-    let data: &[u8] = &input[..n];
-    let mut at: usize = 0;
-    while at < data.len() {
-        let next = at + 1;
-        let end = end_of(at, data.len(), data[at]);
-        run(&rt, &data[next..end])?;
-        at = end;
+    let mut rest = &input[..n];
+    while let Some((size, frames)) = rest.split_first() {
+        let end = usize::from(*size).min(frames.len());
+        run(&rt, &frames[..end])?;
+        rest = &frames[end..];
     }
     Ok(())
 }

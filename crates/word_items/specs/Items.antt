@@ -1,83 +1,75 @@
 -- THE TEXT OF AN ITEM: a word and its value, `dialnorm=27`, `dynrng[3]=0x80` or `17=5`. A word is told by its name, with its block in brackets, or by its place in the list.
-use Rattle.std.specs.Prelude.{Bool, true, false, cond, ◌&&◌, List, ℕ, zero, suc, ◌+◌, ◌-◌, ◌*◌, leb, ltb, eqb, length, get_or}
+use Rattle.std.specs.Prelude.{Bool, false, cond, List, ℕ, zero, suc, ◌+◌, ◌-◌, ◌*◌, leb, ltb, eqb, length, get_or, bytes_eq, Option, Some, None, Result, Ok, Err}
 use Rattle.names.specs.Spelling.{bytes}
-use Rattle.word_items.specs.declared.Place.{Place}
-use Rattle.word_items.specs.declared.Place.TheVariants.{At, Nowhere, Twice}
+use Rattle.word_items.specs.declared.Unplaced.{Unplaced}
+use Rattle.word_items.specs.declared.Unplaced.TheVariants.{Nowhere, Twice}
 
--- of the first t bytes: where the last c stands; e where there is none
-unfoldable pub last_to : List ℕ → ℕ → ℕ → ℕ → ℕ
-last_to s c e zero = e
-last_to s c e (suc t) = cond (eqb (get_or s t 0) c) t (last_to s c e t)
+-- of the first t bytes: where the last c stands, if there is one
+unfoldable pub last_to : List ℕ → ℕ → ℕ → Option ℕ
+last_to s c zero = None
+last_to s c (suc t) = cond (eqb (get_or s t 0) c) (Some t) (last_to s c t)
 
--- the first t bytes of a text and of a word are the same
-unfoldable pub same_to : List ℕ → List ℕ → ℕ → Bool
-same_to s w zero = true
-same_to s w (suc t) = eqb (get_or s t 0) (get_or w t 0) && same_to s w t
+-- the number of the word that a text spells, if it spells one
+unfoldable pub name_of : List ℕ → Option ℕ
+name_of s =
+    cond (bytes_eq s (bytes "dialnorm")) (Some 80)
+    (cond (bytes_eq s (bytes "dialnorm2")) (Some 81)
+    (cond (bytes_eq s (bytes "compr")) (Some 36)
+    (cond (bytes_eq s (bytes "compr2")) (Some 37)
+    (cond (bytes_eq s (bytes "dynrng")) (Some 89)
+    (cond (bytes_eq s (bytes "dynrng2")) (Some 90) None)))))
 
--- the first n bytes of a text are a word
-unfoldable pub spells : List ℕ → ℕ → List ℕ → Bool
-spells s n w = cond (eqb n (length w)) (same_to s w n) false
+-- what a letter counts as a digit, 0 to 9 and a to f
+unfoldable pub digit_of : ℕ → Option ℕ
+digit_of c = cond (ltb c 48) None (cond (ltb c 58) (Some (c - 48)) (cond (ltb c 97) None (cond (ltb c 103) (Some (c - 87)) None)))
 
--- what is no number of 32 bits; what is no name
+-- what no 32 bits hold
 abbrev pub no_number : ℕ
 no_number = 0x100000000
 
-abbrev pub no_name : ℕ
-no_name = 255
-
--- the number of the word that the first n bytes of a text spell
-unfoldable pub name_of : List ℕ → ℕ → ℕ
-name_of s n =
-    cond (spells s n (bytes "dialnorm")) 80
-    (cond (spells s n (bytes "dialnorm2")) 81
-    (cond (spells s n (bytes "compr")) 36
-    (cond (spells s n (bytes "compr2")) 37
-    (cond (spells s n (bytes "dynrng")) 89
-    (cond (spells s n (bytes "dynrng2")) 90 no_name)))))
-
--- what a letter counts as a digit, 0 to 9 and a to f; 16 for no digit
-unfoldable pub digit_of : ℕ → ℕ
-digit_of c = cond (ltb c 48) 16 (cond (ltb c 58) (c - 48) (cond (ltb c 97) 16 (cond (ltb c 103) (c - 87) 16)))
-
--- a digit more behind a number
-unfoldable pub behind : ℕ → ℕ → ℕ → ℕ
-behind base v d = cond (leb base d) no_number (cond (leb no_number (v * base + d)) no_number (v * base + d))
+-- a digit more behind a number: none where there is no number or no digit, where the digit is none of the base, and where 32 bits do not hold the number
+unfoldable pub behind : ℕ → Option ℕ → Option ℕ → Option ℕ
+behind base None d = None
+behind base (Some v) None = None
+behind base (Some v) (Some d) = cond (leb base d) None (cond (leb no_number (v * base + d)) None (Some (v * base + d)))
 
 -- the number that t letters from one on write
-unfoldable pub value_to : List ℕ → ℕ → ℕ → ℕ → ℕ
-value_to s base from zero = 0
+unfoldable pub value_to : List ℕ → ℕ → ℕ → ℕ → Option ℕ
+value_to s base from zero = Some 0
 value_to s base from (suc t) = behind base (value_to s base from t) (digit_of (get_or s (from + t) 0))
 
 -- two letters are 0x
 unfoldable pub marks_hex : ℕ → ℕ → Bool
 marks_hex a b = cond (eqb a 48) (eqb b 120) false
 
--- the number that the bytes from one to an end write: decimal, or hexadecimal behind 0x
-unfoldable pub number_of : List ℕ → ℕ → ℕ → ℕ
-number_of s from end =
-    cond (leb end from) no_number
-    (cond (leb (end - from) 2) (value_to s 10 from (end - from))
-    (cond (marks_hex (get_or s from 0) (get_or s (from + 1) 0)) (value_to s 16 (from + 2) (end - from - 2)) (value_to s 10 from (end - from))))
+-- the number that a text writes: decimal, or hexadecimal behind 0x
+unfoldable pub number_of : List ℕ → Option ℕ
+number_of s =
+    cond (leb (length s) 0) None
+    (cond (leb (length s) 2) (value_to s 10 0 (length s))
+    (cond (marks_hex (get_or s 0 0) (get_or s 1 0)) (value_to s 16 2 (length s - 2)) (value_to s 10 0 (length s))))
 
 -- a record is the word meant: its name, and its block where one is told
-unfoldable pub is_meant : ℕ → ℕ → ℕ → ℕ → Bool → Bool
-is_meant n b name block any = cond (eqb n name) (cond any true (eqb b block)) false
+unfoldable pub is_meant : ℕ → ℕ → ℕ → Option ℕ → Bool
+is_meant n b name None = eqb n name
+is_meant n b name (Some block) = cond (eqb n name) (eqb b block) false
 
--- of the first t records: the place of the last that is meant; e where there is none
-unfoldable pub meant_to : List ℕ → List ℕ → ℕ → ℕ → Bool → ℕ → ℕ → ℕ
-meant_to names blocks name block any e zero = e
-meant_to names blocks name block any e (suc t) =
-    cond (is_meant (get_or names t 0) (get_or blocks t 0) name block any) t (meant_to names blocks name block any e t)
+-- of the first t records: the place of the last that is meant, if there is one
+unfoldable pub meant_to : List ℕ → List ℕ → ℕ → Option ℕ → ℕ → Option ℕ
+meant_to names blocks name block zero = None
+meant_to names blocks name block (suc t) =
+    cond (is_meant (get_or names t 0) (get_or blocks t 0) name block) (Some t) (meant_to names blocks name block t)
 
--- among the first n; n where there is none
-abbrev pub last_meant : List ℕ → List ℕ → ℕ → ℕ → Bool → ℕ → ℕ
-last_meant names blocks name block any n = meant_to names blocks name block any n n
+-- the last that is meant stands at p, and before it another at q, if there is one
+abbrev pub only : ℕ → Option ℕ → Result ℕ Unplaced
+only p None = Ok p
+only p (Some q) = Err Twice
 
--- of n records the last that is meant stands at p, and of those before it the last at q
-unfoldable pub place_by : ℕ → ℕ → ℕ → Place
-place_by n p q = cond (leb n p) Nowhere (cond (leb p q) (At p) Twice)
+-- the last that is meant, if there is one; `before` gives the last before a place
+abbrev pub place_by : (ℕ → Option ℕ) → Option ℕ → Result ℕ Unplaced
+place_by before None = Err Nowhere
+place_by before (Some p) = only p (before p)
 
 -- the place of the one record that is meant, among the first n
-unfoldable pub place_of : List ℕ → List ℕ → ℕ → ℕ → ℕ → Bool → Place
-place_of names blocks n name block any =
-    place_by n (last_meant names blocks name block any n) (last_meant names blocks name block any (last_meant names blocks name block any n))
+unfoldable pub place_of : List ℕ → List ℕ → ℕ → ℕ → Option ℕ → Result ℕ Unplaced
+place_of names blocks n name block = place_by (meant_to names blocks name block) (meant_to names blocks name block n)

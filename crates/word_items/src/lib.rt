@@ -1,208 +1,134 @@
 // Items as text: a word by its name, with its block where it repeats, or by its place in the list; and its value.
 #![tactic(auto)]
 
-ghost use Rattle.std.specs.Prelude.{◌≡◌, cond, ◌&&◌, ◌+◌, ◌≤◌, ◌<◌, eqb, leb, length};
-ghost use Rattle.word_items.specs.Items.{last_to, same_to, spells, name_of, digit_of, behind, value_to, number_of, marks_hex, is_meant, meant_to, place_of};
+ghost use Rattle.std.specs.Prelude.{◌≡◌, ◌<◌, min, length, bytes_eq, IfSome};
+ghost use Rattle.word_items.specs.Items.{last_to, name_of, digit_of, behind, value_to, marks_hex, number_of, is_meant, place_of};
 
 use names::numbers::{COMPR, COMPR2, DIALNORM, DIALNORM2, DYNRNG, DYNRNG2};
 
-// What no 32 bits hold.
-pub const NO_NUMBER: u64 = 0x100000000;
-
-// No name.
-pub const NO_NAME: u8 = 255;
-
-// Where a word stands in a list.
-#[derive(Clone, Copy)]
-pub enum Place {
-    At(usize),
+// Why a word that is meant has no place in a list: no record is meant, or more than one.
+#[derive(Clone, Copy, PartialEq, Eq, Debug)]
+pub enum Unplaced {
     Nowhere,
     Twice,
 }
 
-fn chosen(is: bool, yes: usize, no: usize) -> usize
-    ensures { result ≡ cond is yes no }
+// Where the last of a byte stands.
+pub fn last(text: &[u8], wanted: u8) -> Option<usize>
+    ensures last { result ≡ last_to text.now wanted (length text.now) }
+    ensures within { IfSome result (λ i. i < length text.now) }
 {
-    if is { yes } else { no }
+    text.iter().rposition(|c| *c == wanted)
 }
 
-// Where the last of a byte stands among the first so many; their end where there is none.
-pub fn last(text: &[u8], end: usize, wanted: u8) -> usize
-    requires { end ≤ length text.now }
-    ensures { result ≡ last_to text.now wanted end end }
+fn is_word(text: &[u8], word: &[u8]) -> bool
+    ensures { result ≡ bytes_eq text.now word.now }
 {
-    let mut place = end;
-    let mut t = 0;
-    while t < end {
-        place = chosen(text[t] == wanted, t, place);
-        t += 1;
-    }
-    place
+    text == word
 }
 
-fn both(a: bool, b: bool) -> bool
-    ensures { result ≡ (a && b) }
+// The number of the word that a text spells.
+#[tactic(auto, unfolding(crate::specs::Items::name_of))]
+pub fn name_of(text: &[u8]) -> Option<u8>
+    ensures { result ≡ name_of text.now }
 {
-    a && b
+    if is_word(text, b"dialnorm") {
+        Some(DIALNORM)
+    } else if is_word(text, b"dialnorm2") {
+        Some(DIALNORM2)
+    } else if is_word(text, b"compr") {
+        Some(COMPR)
+    } else if is_word(text, b"compr2") {
+        Some(COMPR2)
+    } else if is_word(text, b"dynrng") {
+        Some(DYNRNG)
+    } else if is_word(text, b"dynrng2") {
+        Some(DYNRNG2)
+    } else {
+        None
+    }
 }
 
-// Whether a text and a word begin with the same bytes, so many.
-fn same(text: &[u8], word: &[u8], n: usize) -> bool
-    requires { (n ≤ length text.now) × (n ≤ length word.now) }
-    ensures { result ≡ same_to text.now word.now n }
+// What a letter counts as a digit.
+#[tactic(auto, unfolding(crate::specs::Items::digit_of))]
+fn digit(c: u8) -> Option<u32>
+    ensures { result ≡ digit_of c }
 {
-    let mut alike = true;
-    let mut t = 0;
-    while t < n {
-        alike = both(text[t] == word[t], alike);
-        t += 1;
+    match c {
+        b'0'..=b'9' => Some(c as u32 - 48),
+        b'a'..=b'f' => Some(c as u32 - 87),
+        _ => None,
     }
-    alike
-}
-
-fn is_word(text: &[u8], n: usize, word: &[u8]) -> bool
-    requires { n ≤ length text.now }
-    ensures { result ≡ spells text.now n word.now }
-{
-    if n != word.len() {
-        return false;
-    }
-    same(text, word, n)
-}
-
-fn named(is: bool, yes: u8, no: u8) -> u8
-    ensures { result ≡ cond is yes no }
-{
-    if is { yes } else { no }
-}
-
-// The number of the word that the first bytes of a text spell.
-pub fn name_of(text: &[u8], n: usize) -> u8
-    requires { n ≤ length text.now }
-    ensures { result ≡ name_of text.now n }
-{
-    let name = named(is_word(text, n, b"dynrng2"), DYNRNG2, NO_NAME);
-    let name = named(is_word(text, n, b"dynrng"), DYNRNG, name);
-    let name = named(is_word(text, n, b"compr2"), COMPR2, name);
-    let name = named(is_word(text, n, b"compr"), COMPR, name);
-    let name = named(is_word(text, n, b"dialnorm2"), DIALNORM2, name);
-    named(is_word(text, n, b"dialnorm"), DIALNORM, name)
-}
-
-// What a letter counts as a digit; 16 for none.
-fn digit(c: u8) -> u64
-    ensures { (result ≡ digit_of c) × (result ≤ 16) }
-{
-    if c < 48 {
-        return 16;
-    }
-    if c < 58 {
-        return c as u64 - 48;
-    }
-    if c < 97 {
-        return 16;
-    }
-    if c < 103 {
-        return c as u64 - 87;
-    }
-    16
 }
 
 // A digit more behind a number.
-fn further(base: u64, value: u64, d: u64) -> u64
-    requires { (base ≤ 16) × (value ≤ 0x100000000) × (d ≤ 16) }
-    ensures { (result ≡ behind base value d) × (result ≤ 0x100000000) }
+#[tactic(auto, unfolding(crate::specs::Items::behind))]
+fn further(base: u32, value: u32, d: u32) -> Option<u32>
+    ensures { result ≡ behind base (Some value) (Some d) }
 {
     if base <= d {
-        return NO_NUMBER;
+        return None;
     }
-    let next = value * base + d;
-    if NO_NUMBER <= next {
-        return NO_NUMBER;
-    }
-    next
+    value.checked_mul(base)?.checked_add(d)
 }
 
-// The number that so many letters from one on write.
-fn digits(text: &[u8], base: u64, from: usize, n: usize) -> u64
-    requires { (base ≤ 16) × (from + n ≤ length text.now) }
-    ensures { result ≡ value_to text.now base from n }
+// The number that some letters write.
+fn digits(text: &[u8], base: u32) -> Option<u32>
+    ensures { result ≡ value_to text.now base 0 (length text.now) }
 {
     let mut value = 0;
-    let mut t = 0;
-    while t < n {
-        value = further(base, value, digit(text[from + t]));
-        t += 1;
+    for c in text {
+        value = further(base, value, digit(*c)?)?;
     }
-    value
+    Some(value)
 }
 
+#[tactic(auto, unfolding(crate::specs::Items::marks_hex))]
 fn marks_hex(a: u8, b: u8) -> bool
     ensures { result ≡ marks_hex a b }
 {
-    if a == 48 {
-        return b == 120;
-    }
-    false
+    a == b'0' && b == b'x'
 }
 
-// The number that the bytes from one to an end write: decimal, or hexadecimal behind 0x.
-pub fn number_of(text: &[u8], from: usize, end: usize) -> u64
-    requires { end ≤ length text.now }
-    ensures { result ≡ number_of text.now from end }
+// The number that a text writes: decimal, or hexadecimal behind 0x.
+pub fn number_of(text: &[u8]) -> Option<u32>
+    ensures { result ≡ number_of text.now }
 {
-    if end <= from {
-        return NO_NUMBER;
+    if text.is_empty() {
+        return None;
     }
-    let n = end - from;
-    if n <= 2 {
-        return digits(text, 10, from, n);
+    if text.len() <= 2 {
+        return digits(text, 10);
     }
-    if marks_hex(text[from], text[from + 1]) {
-        return digits(text, 16, from + 2, n - 2);
+    if marks_hex(text[0], text[1]) {
+        return digits(&text[2..], 16);
     }
-    digits(text, 10, from, n)
+    digits(text, 10)
 }
 
-// Whether a record is the word meant.
-fn is_meant(n: u8, b: u8, name: u8, block: u8, any: bool) -> bool
-    ensures { result ≡ is_meant n b name block any }
+// Whether a record is the word meant: its name, and its block where one is told.
+#[tactic(auto, unfolding(crate::specs::Items::is_meant))]
+fn is_meant(n: u8, b: u8, name: u8, block: Option<u8>) -> bool
+    ensures { result ≡ is_meant n b name block }
 {
-    if n != name {
-        return false;
+    match block {
+        None => n == name,
+        Some(block) => n == name && b == block,
     }
-    if any {
-        return true;
-    }
-    b == block
-}
-
-// The place of the last record that is meant, among the first so many; their end where there is none.
-fn meant(names: &[u8], blocks: &[u8], name: u8, block: u8, any: bool, end: usize) -> usize
-    requires { (end ≤ length names.now) × (end ≤ length blocks.now) }
-    ensures { (result ≡ meant_to names.now blocks.now name block any end end) × (result ≤ end) }
-{
-    let mut place = end;
-    let mut t = 0;
-    while t < end {
-        place = chosen(is_meant(names[t], blocks[t], name, block, any), t, place);
-        t += 1;
-    }
-    place
 }
 
 // The place of the one record that is meant.
-pub fn place_of(names: &[u8], blocks: &[u8], count: usize, name: u8, block: u8, any: bool) -> Place
-    requires { (count ≤ length names.now) × (count ≤ length blocks.now) }
-    ensures { result ≡ place_of names.now blocks.now count name block any }
+pub fn place_of(names: &[u8], blocks: &[u8], name: u8, block: Option<u8>) -> Result<usize, Unplaced>
+    ensures { result ≡ place_of names.now blocks.now (min (length names.now) (length blocks.now)) name block }
 {
-    let last = meant(names, blocks, name, block, any, count);
-    if count <= last {
-        return Place::Nowhere;
+    let mut place = None;
+    for t in 0..names.len().min(blocks.len()) {
+        if is_meant(names[t], blocks[t], name, block) {
+            if place.is_some() {
+                return Err(Unplaced::Twice);
+            }
+            place = Some(t);
+        }
     }
-    let before = meant(names, blocks, name, block, any, last);
-    if last <= before {
-        return Place::At(last);
-    }
-    Place::Twice
+    place.ok_or(Unplaced::Nowhere)
 }

@@ -1,2 +1,3 @@
 pub mod Words
 pub mod Written
+pub mod Told

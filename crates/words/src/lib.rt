@@ -2,58 +2,36 @@
 // word holds, and a word written into a lent frame.
 #![tactic(auto)]
 
-ghost use Rattle.std.specs.Prelude.{◌≡◌, ◌||◌, ◌+◌, ◌*◌, ◌/◌, ◌^◌, ◌≤◌, ◌<◌, eqb, length};
-ghost use Rattle.names.specs.Names.{dialnorm, dialnorm2, compr, compr2, dynrng, dynrng2};
+ghost use Rattle.std.specs.Prelude.{◌≡◌, ◌+◌, ◌*◌, ◌/◌, ◌^◌, ◌≤◌, ◌<◌, length, MatchOption};
 ghost use Rattle.words.specs.Words.{width_of, unfit_of, with_word};
+ghost use Rattle.words.specs.Told.{Told};
 
 use bits::{BitPlace, bits_at};
 use names::numbers::{COMPR, COMPR2, DIALNORM, DIALNORM2, DYNRNG, DYNRNG2};
+use refusals::Refusal;
 
-fn five_bits(name: u8) -> bool
-    ensures { result ≡ (eqb name dialnorm || eqb name dialnorm2) }
+// How many bits a word of this name has; none where the name is not one of the six.
+#[tactic(auto, unfolding(crate::specs::Words::width_of))]
+pub fn word_width(name: u8) -> Option<u16>
+    ensures { MatchOption result (width_of name ≡ 0) (λ w. (w ≡ width_of name) × (0 < w) × (w ≤ 8)) }
 {
-    name == DIALNORM || name == DIALNORM2
+    match name {
+        DIALNORM | DIALNORM2 => Some(5),
+        COMPR | COMPR2 | DYNRNG | DYNRNG2 => Some(8),
+        _ => None,
+    }
 }
 
-fn eight_bits(name: u8) -> bool
-    ensures { result ≡ (eqb name compr || (eqb name compr2 || (eqb name dynrng || eqb name dynrng2))) }
+// Whether a record of this name may be set to a value: it may not where it is not one of the six, or the value too wide.
+#[tactic(auto, unfolding(crate::specs::Words::unfit_of))]
+pub fn fits(name: u8, value: u32) -> Result<(), Refusal>
+    ensures { Told result (unfit_of name value) }
 {
-    name == COMPR || (name == COMPR2 || (name == DYNRNG || name == DYNRNG2))
-}
-
-// How many bits a word of this name has; 0 where the name is not one of the six.
-pub fn word_width(name: u8) -> u16
-    ensures { (result ≡ width_of name) × (result ≤ 8) }
-{
-    if five_bits(name) {
-        return 5;
+    let width = word_width(name).ok_or(Refusal::NotAWord)?;
+    if 1 << width <= value {
+        return Err(Refusal::ValueTooWide);
     }
-    if eight_bits(name) {
-        return 8;
-    }
-    0
-}
-
-// The least number that so many bits do not hold.
-fn limit(width: u16) -> u32
-    requires { width ≤ 8 }
-    ensures { result ≡ 2 ^ width }
-{
-    1 << (width as u32)
-}
-
-// The number of the refusal to set a record of this name to a value: 42 not one of the six, 43 value too wide; 0 for none.
-pub fn unfit(name: u8, value: u32) -> u8
-    ensures { result ≡ unfit_of name value }
-{
-    let width = word_width(name);
-    if width == 0 {
-        return 42;
-    }
-    if limit(width) <= value {
-        return 43;
-    }
-    0
+    Ok(())
 }
 
 // A number, and behind it so many bits.
@@ -61,7 +39,7 @@ fn append(high: u32, width: u16, low: u32) -> u32
     requires { (width ≤ 16) × (high < 65536) × (low < 2 ^ width) }
     ensures { result ≡ high * 2 ^ width + low }
 {
-    (high << (width as u32)) + low
+    (high << width) + low
 }
 
 // Writes a word of so many bits at a place. It lies in two bytes, whose other bits stay.

@@ -11,7 +11,7 @@ invariant-loop-j l =
     record {
       band : BinBand (l.j - 1) l.k;
       ends : l.to ≡ end_of l.k;
-      sum : l.s ≡ bndpsd_l l.exps l.start l.j l.k;
-      powers : l.powers ≡ (range_l l.exps l.start l.j).powers;
-      sums : set l.bnd l.k l.s ≡ (range_l l.exps l.start l.j).sums;
+      sum : l.s ≡ bndpsd_l l.exps l.bins.start l.j l.k;
+      powers : l.powers ≡ (range_l l.exps l.bins.start l.j).powers;
+      sums : set l.bnd l.k l.s ≡ (range_l l.exps l.bins.start l.j).sums;
     }

@@ -1,13 +1,11 @@
+use mathlib.Core.Path.{◌∙◌}
 use native.Mathlib.Omega.{arith}
-use lib.ListN.{length-set}
-use Rattle.crc.proofs.Frame.{found, written}
+use Rattle.crc.proofs.Frame.{found, written, put-in}
 use Rattle.crc.proofs.set_crc2.Goals as goal
-
-pub bounds-frame-n-2 : goal.bounds-frame-n-2
-bounds-frame-n-2 c = rw length-set (omega arith)
 
 pub returns : goal.returns
 returns c =
-    let a = c.args in
+    let s = c.args.frame.now in
+    let n = c.args.bytes.0 in
     let six = c.requires.0 in
-    (found a.frame.now a.bytes.0 six c.remainder-r.ensures, written a.frame.now a.bytes.0 six c.remainder-r.ensures)
+    (found s n six c.remainder-r.ensures, put-in s n c.remainder-r.result (omega arith) c.requires.1 c.remainder-r.type_inv (c.copy_from_slice.ensures.after ∙ c.to_be_bytes.ensures) ∙ written s n six c.remainder-r.ensures)

@@ -5,6 +5,6 @@ use Rattle.gain.proofs.told.Goals as goal
 
 pub returns : goal.returns
 returns c =
-    let r = c.spread-r.ensures in
+    let r = c.spread-range.ensures in
     let g = c.gain_from.ensures ∙ ap answer_of r in
     cc (r, g)

@@ -1,15 +1,26 @@
 -- A reading; and where it is accepted, the words and crc2 set.
-use mathlib.Core.Path.{sym, ◌∙◌}
+use mathlib.Core.Path.{refl, sym, ap, ◌∙◌}
+use native.Mathlib.Omega.{arith}
+use Rattle.answer.specs.declared.Verdict.{Verdict}
+use Rattle.mastering.specs.SetWord.{accepted_by}
 use Rattle.mastering.proofs.Entry.{reader-refuses, listed, words-set}
+use Rattle.mastering.proofs.Rewriting.{set-is, refused-is}
+use Rattle.syntax.specs.Records.{halted_at}
 use Rattle.mastering.proofs.set_words.Goals as goal
 
-pub returns-then-not-accepted : goal.returns-then-not-accepted
-returns-then-not-accepted c = reader-refuses _ _ _ _ c.parse-read.ensures (sym c.accepted.ensures ∙ c.if-not-accepted.true)
+pub returns-in-Refused : goal.returns-in-Refused
+returns-in-Refused c = reader-refuses _ _ _ _ c.parse-read.ensures (ap accepted_by c.in-Refused.is)
 
-pub rewrite-number-requires : goal.rewrite-number-requires
-rewrite-number-requires c = listed _ _ _ _ _ _ _ _ c.parse-read.ensures (sym c.accepted.ensures ∙ c.if-not-accepted.false)
+pub rewrite-requires : goal.rewrite-requires
+rewrite-requires c = listed _ _ _ _ _ _ _ _ c.parse-read.ensures (ap accepted_by c.in-Accepted.is)
 
-pub returns : goal.returns
-returns c =
-    words-set _ _ _ _ _ _ _ _ c.parse-read.ensures (sym c.accepted.ensures ∙ c.if-not-accepted.false) _ _ _ c.rewrite-number.ensures.0 c.rewrite-number.ensures.1 c.rewrite-number.ensures.2
-    c.answer_with.ensures
+pub returns-in-Ok : goal.returns-in-Ok
+returns-in-Ok c =
+    let e = c.in-Ok.ensures in
+    words-set _ _ _ _ _ _ _ _ c.parse-read.ensures (ap accepted_by c.in-Accepted.is) _ _ _ refl e.1 e.2 (set-is _ _ _ e.0)
+
+pub returns-in-Err : goal.returns-in-Err
+returns-in-Err c =
+    let e = c.in-Err.ensures in
+    words-set _ _ _ _ _ _ _ _ c.parse-read.ensures (ap accepted_by c.in-Accepted.is) _ _ _ refl e.1 e.2
+    (refused-is _ _ _ (c.halted.ensures ∙ ap (halted_at 0 c.parse-read.result.frame.fields) (c.number.ensures ∙ e.0.0)) c.refusal.ensures (λ z. omega (arith, e.0.1, z)))

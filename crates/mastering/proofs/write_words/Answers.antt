@@ -1,63 +1,24 @@
-use mathlib.Core.Path.{refl, ap, ◌∙◌}
+use mathlib.Core.Path.{◌≡◌, refl, ap, ◌∙◌}
+use mathlib.Core.List.{[], ◌∷◌, ◌++◌}
 use native.Mathlib.Omega.{arith}
-use lib.ListN.{length}
-use Rattle.mastering.proofs.Rewriting.{item-asks, worded-none, worded-more, worded-long, worded-all, values-none, values-more, values-long, values-all}
+use Prim.Native.Nat.{◌+◌}
+use lib.ListN.{length, get_or, length-append}
 use borrow.Author.Rules.{rules}
+use Rattle.std.proofs.lemmas.Slice.Zip.{zip_turn}
+use Rattle.words.specs.Words.{width_of}
+use Rattle.mastering.proofs.Rewriting.{worded-none, worded-more, worded-long, values-none, values-more, values-long}
 use Rattle.mastering.proofs.write_words.Goals as goal
 
-pub loop-t-init : goal.loop-t-init
-loop-t-init c = (omega arith, worded-none _ _ _ _ _, values-none _ _ _, refl, refl)
+pub loop-place-init : goal.loop-place-init
+loop-place-init c = (worded-none _ _ _ _ _, values-none _ _ _, refl, refl)
 
-pub offset_bounds-places-t : goal.offset_bounds-places-t
-offset_bounds-places-t c = let h = c.requires.places_held in search rules
-
-pub bounds-places-t : goal.bounds-places-t
-bounds-places-t c = omega (arith, c.requires.places_held, c.loop-t-test.true)
-
-pub offset_bounds-firsts-place : goal.offset_bounds-firsts-place
-offset_bounds-firsts-place c = let h = (c.requires.each _ c.loop-t-test.true).placed in search rules
-
-pub bounds-firsts-place : goal.bounds-firsts-place
-bounds-firsts-place c = (c.requires.each _ c.loop-t-test.true).placed
-
-pub bounds-names-place : goal.bounds-names-place
-bounds-names-place c = (c.requires.each _ c.loop-t-test.true).named
-
-pub offset_bounds-words-t : goal.offset_bounds-words-t
-offset_bounds-words-t c = let h = c.requires.words_held in search rules
-
-pub bounds-words-t : goal.bounds-words-t
-bounds-words-t c = omega (arith, c.requires.words_held, c.loop-t-test.true)
-
-pub write_word-requires : goal.write_word-requires
-write_word-requires c = item-asks (c.requires.each _ c.loop-t-test.true) c.word_width.ensures c.loop-t.invariant.3
-
-pub offset_bounds-words-t-in-loop-t : goal.offset_bounds-words-t-in-loop-t
-offset_bounds-words-t-in-loop-t c = let h = c.requires.words_held in search rules
-
-pub bounds-words-t-in-loop-t : goal.bounds-words-t-in-loop-t
-bounds-words-t-in-loop-t c = omega (arith, c.requires.words_held, c.loop-t-test.true)
-
-pub offset_bounds-values-place : goal.offset_bounds-values-place
-offset_bounds-values-place c = let h = (c.requires.each _ c.loop-t-test.true).valued in let l = c.loop-t.invariant.4 in search rules
-
-pub bounds-values-place : goal.bounds-values-place
-bounds-values-place c = omega (arith, (c.requires.each _ c.loop-t-test.true).valued, c.loop-t.invariant.4)
-
-pub loop-t-smaller : goal.loop-t-smaller
-loop-t-smaller c = omega arith
-
-pub loop-t-preserved : goal.loop-t-preserved
-loop-t-preserved c =
-    let x = worded-more _ _ _ _ _ _ c.loop-t.invariant.1 c.word_width.ensures.0 c.write_word.ensures in
-    let y = values-more _ _ _ _ c.loop-t.invariant.2 in
-    (omega arith, x, y, ap length x ∙ worded-long _ _ _ _ _ _, ap length y ∙ values-long _ _ _ _)
-
-pub shape_of-frame : goal.shape_of-frame
-shape_of-frame c = c.loop-t.invariant.3
-
-pub shape_of-values : goal.shape_of-values
-shape_of-values c = c.loop-t.invariant.4
-
-pub returns : goal.returns
-returns c = (worded-all _ _ _ _ _ c.loop-t.invariant.1 c.loop-t.invariant.0 (omega arith), values-all _ _ _ c.loop-t.invariant.2 c.loop-t.invariant.0 (omega arith))
+pub loop-place-preserved : goal.loop-place-preserved
+loop-place-preserved c =
+    let t = length c.loop-place.yielded in
+    let k : length (c.loop-place.yielded ++ (c.in-Some.field-0-0, c.in-Some.field-0-1) ∷ []) ≡ t + 1 = length-append _ _ in
+    let z = zip_turn c.args.places.now c.args.words.now c.loop-place.yielded c.into_iter-place-iterator.result c.loop-place.place-iterator c.next.new.self c.next.result (search rules) (search rules)
+    c.loop-place.yielded_by (c.in-Some.field-0-0, c.in-Some.field-0-1) c.in-Some.is c.next.ensures.steps in
+    let l : c.unwrap-width.result ≡ width_of (get_or c.args.names.now c.in-Some.field-0-0.now 0) = search rules in
+    let x = worded-more _ _ _ _ _ t c.loop-place.invariant.0 (z.2 0) (z.3 0) l c.write_word.ensures k in
+    let y = values-more _ _ _ t c.loop-place.invariant.1 (z.2 0) (z.3 0) k in
+    (x, y, ap length x ∙ worded-long _ _ _ _ _ _, ap length y ∙ values-long _ _ _ _)

@@ -7,10 +7,10 @@ use Rattle.names.specs.Names.{names}
 use Rattle.names.specs.Spelling.{spellings, bytes}
 use Rattle.names.proofs.letters.Goals as goal
 
-pub returns-then-name-ge202 : goal.returns-then-name-ge202
+pub returns-else-name-lt202 : goal.returns-else-name-lt202
 unfolding names spellings
-returns-then-name-ge202 c = sym (ap length (get_or-eq_default spellings [] {n = c.args.name} (omega arith)))
+returns-else-name-lt202 c = sym (ap length (get_or-eq_default spellings [] {n = c.args.name} (omega arith)))
 
-pub returns : goal.returns
+pub returns-then-name-lt202 : goal.returns-then-name-lt202
 unfolding names spellings bytes
-returns c = get_or-map length spellings c.args.name []
+returns-then-name-lt202 c = get_or-map length spellings c.args.name []

@@ -1,27 +1,17 @@
-use Prim.Native.Nat.{◌+◌, ◌*◌}
-use mathlib.Core.Path.{refl, sym, ap, ◌∙◌}
+use Prim.Native.Nat.{◌+◌, ◌-◌, ◌*◌}
+use mathlib.Core.Path.{sym, ap, ◌∙◌}
 use mathlib.Core.List.{[]}
 use native.Mathlib.Omega.{arith}
-use lib.ListN.{get_or, length-set, get_or-eq_default}
-use Rattle.names.specs.Spelling.{spellings, spelling_of, padded}
-use Rattle.names.proofs.Rows.{count, at_row, filled, copied}
+use lib.ListN.{take, drop, get_or-eq_default}
+use Rattle.names.specs.Spelling.{spellings, padded}
+use Rattle.names.proofs.Rows.{count, row_is}
 use Rattle.names.proofs.spelling.Goals as goal
 
-pub returns-then-name-ge202 : goal.returns-then-name-ge202
-unfolding padded
-returns-then-name-ge202 c = ap (padded 16) (sym (get_or-eq_default spellings [] {n = c.args.name} (rw count (omega arith))))
-
-pub loop-i-init : goal.loop-i-init
-loop-i-init c = (omega arith, refl, λ k h. absurd (let z : ⊥ = omega arith in z))
-
-pub loop-i-preserved : goal.loop-i-preserved
-loop-i-preserved c =
+pub returns-then-name-lt202 : goal.returns-then-name-lt202
+returns-then-name-lt202 c =
     let n = c.args.name in
-    let i = c.loop-i.i in (
-      omega arith,
-      simp length-set c.loop-i.invariant.1,
-      copied c.loop-i.out (padded 16 (spelling_of n)) i _ (omega arith) c.loop-i.invariant.2 (ap (λ t. get_or t (16 * n + i) 0) c.requires ∙ at_row n i (omega arith) (omega arith)),
-    )
+    c.copy_from_slice.ensures.after ∙ ap (λ t. take (16 * n + 16 - 16 * n) (drop (16 * n) t)) c.requires ∙ row_is n c.if-name-lt202.true
 
-pub returns : goal.returns
-returns c = filled _ _ c.loop-i.invariant.1 (λ k h. c.loop-i.invariant.2 k (omega arith))
+pub returns-else-name-lt202 : goal.returns-else-name-lt202
+unfolding padded
+returns-else-name-lt202 c = ap (padded 16) (sym (get_or-eq_default spellings [] {n = c.args.name} (rw count (omega arith))))

@@ -1,16 +1,14 @@
-use native.Mathlib.Omega.{arith}
-use Rattle.word_items.specs.Items.{value_to}
-use Rattle.word_items.proofs.Folds.{to_end, value_none, value-more}
+use Rattle.word_items.proofs.Folds.{behind-none, value_none, value_on, value_stops}
 use Rattle.word_items.proofs.digits.Goals as goal
 
-pub loop-t-init : goal.loop-t-init
-loop-t-init c = (omega arith, value_none _ _ _, omega arith)
+pub loop-c-init : goal.loop-c-init
+loop-c-init c = value_none _ _
 
-pub loop-t-smaller : goal.loop-t-smaller
-loop-t-smaller c = omega arith
+pub returns-in_err-digit : goal.returns-in_err-digit
+returns-in_err-digit c = rw c.from_residual.ensures (value_stops _ _ _ _ c.loop-c-test.true c.loop-c.invariant c.in_err-digit.ensures (behind-none _ _))
 
-pub loop-t-preserved : goal.loop-t-preserved
-loop-t-preserved c = (omega arith, value-more _ _ _ _ c.loop-t.invariant.1 c.digit.ensures.0 c.further-value.ensures.0, c.further-value.ensures.1)
+pub returns-in_err-value : goal.returns-in_err-value
+returns-in_err-value c = rw c.from_residual-in_err-value.ensures (value_stops _ _ _ _ c.loop-c-test.true c.loop-c.invariant c.in_ok-digit.ensures c.in_err-value.ensures)
 
-pub returns : goal.returns
-returns c = to_end (value_to _ _ _) c.loop-t.invariant.1 c.loop-t.invariant.0 (omega arith)
+pub loop-c-preserved : goal.loop-c-preserved
+loop-c-preserved c = value_on _ _ _ c.loop-c.invariant c.in_ok-digit.ensures c.in_ok-value.ensures

@@ -1,11 +1,8 @@
--- The letters before t are read.
+-- The letters before this one are read.
 use mathlib.Core.Path.{◌≡◌}
-use Prim.Native.Nat.{◌-◌, ◌≤◌}
+use Rattle.std.specs.Prelude.{Some}
 use Rattle.word_items.specs.Items.{value_to}
 use Rattle.word_items.proofs.digits.Given as goal
 
-abbrev pub invariant-loop-t : goal.invariant-loop-t
-invariant-loop-t l = (l.t ≤ l.n) × (l.value ≡ value_to l.text l.base l.from l.t) × (l.value ≤ 0x100000000)
-
-abbrev pub decreases-loop-t : goal.decreases-loop-t
-decreases-loop-t l = l.n - l.t
+abbrev pub invariant-loop-c : goal.invariant-loop-c
+invariant-loop-c l = Some l.value ≡ value_to l.text l.base 0 l.c-index

@@ -1,16 +1,14 @@
-use native.Mathlib.Omega.{arith}
-use Rattle.word_items.specs.Items.{last_to}
-use Rattle.word_items.proofs.Folds.{to_end, last_none, last_more}
+use mathlib.Core.Path.{◌≡◌}
+use Prim.Native.Nat.{ℕ, ◌<◌}
+use lib.ListN.{length, get_or}
+use Rattle.std.specs.Prelude.{MatchOption}
+use borrow.Author.Rules.{rules}
+use Rattle.word_items.proofs.Folds.{last_is}
 use Rattle.word_items.proofs.last.Goals as goal
 
-pub loop-t-init : goal.loop-t-init
-loop-t-init c = (omega arith, last_none _ _ _)
-
-pub loop-t-smaller : goal.loop-t-smaller
-loop-t-smaller c = omega arith
-
-pub loop-t-preserved : goal.loop-t-preserved
-loop-t-preserved c = (omega arith, last_more _ _ _ _ c.loop-t.invariant.1 c.chosen-place.ensures)
-
-pub returns : goal.returns
-returns c = to_end (last_to _ _ _) c.loop-t.invariant.1 c.loop-t.invariant.0 (omega arith)
+pub returns-clause-last : goal.returns-clause-last
+returns-clause-last c =
+    let s = c.args.text.now in
+    let w = c.args.wanted in
+    let m : MatchOption c.rposition.result ((k : ℕ) → k < length s → ¬ (get_or s k 0 ≡ w)) (λ i. (i < length s) × (get_or s i 0 ≡ w) × ((k : ℕ) → i < k → k < length s → ¬ (get_or s k 0 ≡ w))) = search rules in
+    last_is s w c.rposition.result m

@@ -1,12 +1,32 @@
--- The words are tried from the last to the first, and the last that is found stands.
-use mathlib.Core.Path.{ap, ap₂, ◌∙◌}
-use mathlib.Core.Bool.{Bool, cond}
-use Prim.Native.Nat.{ℕ}
+-- The words are tried one after another.
 use Rattle.names.specs.Spelling.{bytes}
-use Rattle.word_items.specs.Items.{name_of}
+use Rattle.word_items.proofs.Folds.{first_word, second_word, third_word, fourth_word, fifth_word, sixth_word, no_word}
 use Rattle.word_items.proofs.name_of.Goals as goal
 
-pub returns : goal.returns
-unfolding name_of bytes
-returns c =
-    c.named.ensures ∙ ap₂ (λ (b : Bool) (n : ℕ). cond b 80 n) c.is_word-6.ensures (c.named-name-5.ensures ∙ ap₂ (λ (b : Bool) (n : ℕ). cond b 81 n) c.is_word-5.ensures (c.named-name-4.ensures ∙ ap₂ (λ (b : Bool) (n : ℕ). cond b 36 n) c.is_word-4.ensures (c.named-name-3.ensures ∙ ap₂ (λ (b : Bool) (n : ℕ). cond b 37 n) c.is_word-3.ensures (c.named-name-2.ensures ∙ ap₂ (λ (b : Bool) (n : ℕ). cond b 89 n) c.is_word-2.ensures (c.named-name.ensures ∙ ap (λ (b : Bool). cond b 90 255) c.is_word.ensures)))))
+pub returns-then-is_word : goal.returns-then-is_word
+unfolding bytes
+returns-then-is_word c = first_word _ c.is_word.ensures c.if-is_word.true
+
+pub returns-then-is_word-2 : goal.returns-then-is_word-2
+unfolding bytes
+returns-then-is_word-2 c = second_word _ c.is_word.ensures c.if-is_word.false c.is_word-else-is_word.ensures c.if-is_word-2.true
+
+pub returns-then-is_word-3 : goal.returns-then-is_word-3
+unfolding bytes
+returns-then-is_word-3 c = third_word _ c.is_word.ensures c.if-is_word.false c.is_word-else-is_word.ensures c.if-is_word-2.false c.is_word-else-is_word-2.ensures c.if-is_word-3.true
+
+pub returns-then-is_word-4 : goal.returns-then-is_word-4
+unfolding bytes
+returns-then-is_word-4 c = fourth_word _ c.is_word.ensures c.if-is_word.false c.is_word-else-is_word.ensures c.if-is_word-2.false c.is_word-else-is_word-2.ensures c.if-is_word-3.false c.is_word-else-is_word-3.ensures c.if-is_word-4.true
+
+pub returns-then-is_word-5 : goal.returns-then-is_word-5
+unfolding bytes
+returns-then-is_word-5 c = fifth_word _ c.is_word.ensures c.if-is_word.false c.is_word-else-is_word.ensures c.if-is_word-2.false c.is_word-else-is_word-2.ensures c.if-is_word-3.false c.is_word-else-is_word-3.ensures c.if-is_word-4.false c.is_word-else-is_word-4.ensures c.if-is_word-5.true
+
+pub returns-then-is_word-6 : goal.returns-then-is_word-6
+unfolding bytes
+returns-then-is_word-6 c = sixth_word _ c.is_word.ensures c.if-is_word.false c.is_word-else-is_word.ensures c.if-is_word-2.false c.is_word-else-is_word-2.ensures c.if-is_word-3.false c.is_word-else-is_word-3.ensures c.if-is_word-4.false c.is_word-else-is_word-4.ensures c.if-is_word-5.false c.is_word-else-is_word-5.ensures c.if-is_word-6.true
+
+pub returns-else-is_word-6 : goal.returns-else-is_word-6
+unfolding bytes
+returns-else-is_word-6 c = no_word _ c.is_word.ensures c.if-is_word.false c.is_word-else-is_word.ensures c.if-is_word-2.false c.is_word-else-is_word-2.ensures c.if-is_word-3.false c.is_word-else-is_word-3.ensures c.if-is_word-4.false c.is_word-else-is_word-4.ensures c.if-is_word-5.false c.is_word-else-is_word-5.ensures c.if-is_word-6.false

@@ -1,12 +1,12 @@
 use Rattle.rows.specs.Rows.{counter_in}
-use Rattle.rows.proofs.StepLaws.{put-none}
+use Rattle.rows.proofs.StepLaws.{put-none, only-repeated}
 use borrow.Author.Tests.{eq-eqb, ne_eqb}
 use Rattle.rows.proofs.steps.mark.Goals as goal
 
-pub returns-then-w-eq2 : goal.returns-then-w-eq2
+pub returns-in-Repeated : goal.returns-in-Repeated
 unfolding counter_in
-returns-then-w-eq2 c = rw (eq-eqb _ _ c.if-w-eq2.true, c.put.ensures, c.field.ensures)
+returns-in-Repeated c = rw (eq-eqb _ _ c.in-Repeated.ensures, c.put.ensures, c.field.ensures)
 
-pub returns-else-w-eq2 : goal.returns-else-w-eq2
+pub returns-in_default : goal.returns-in_default
 unfolding counter_in
-returns-else-w-eq2 c = rw (ne_eqb _ _ c.if-w-eq2.false) (put-none _ _)
+returns-in_default c = rw (ne_eqb _ _ (only-repeated _ _ c.of.ensures c.in_default.not-Repeated)) (put-none _ _)

@@ -1,9 +1,0 @@
--- The numbers before k are read.
-use Prim.Native.Nat.{◌-◌, ◌≤◌}
-use Rattle.replay_sets.proofs.twenty_words.Given as goal
-
-abbrev pub invariant-loop-k : goal.invariant-loop-k
-invariant-loop-k l = l.k ≤ 20
-
-abbrev pub decreases-loop-k : goal.decreases-loop-k
-decreases-loop-k l = 20 - l.k
