@@ -52,7 +52,7 @@ module _ (s : List ℕ) (l name : ℕ) (i : Sum) (w : ℕ) (a : Addr) (c : Cond)
 
 -- the refusal k after a record that is in the room or found none
 module _ (f : Field) (k place next n : ℕ) (m : Room) (r : Progress) (mu : Room) (st : State) (e : outcome r f.value mu ≡ keep_of f next n m) where
-  refuses : ℕ → ℕ → Room → Out State
+  abbrev refuses : ℕ → ℕ → Room → Out State
   refuses p i r = got (refused k) place i r
 
   after : refused_after f k place n m ≡ (outcome r f.value mu then (λ _ p i r. refuses p i r))
@@ -107,8 +107,8 @@ module _ (s : List ℕ) (m : Room) (v : ℕ) (ev : v ≡ bits_at s 0 16) where
   refuses-one g eg b e h = by (ℕ_discrete v 0x0B77)
     where
       by : Dec (v ≡ 0x0B77) → Refuses
-      by (yes y) = (6, (45, bsid-refused y (eg ∙ other-bsid b v g e h y)))
-      by (no n) = (2, (16, word-refused n))
+      by (yes y) = (6, 45, bsid-refused y (eg ∙ other-bsid b v g e h y))
+      by (no n) = (2, 16, word-refused n)
 
   module _ (mu : Room) (long : 6 ≤ length s) (r : Progress) (e : outcome r v mu ≡ keep_of (word v) 16 0 m) where
     stops-so : (x : Stopped) → got (refused (number_of x.refusal)) x.at.0 x.count mu ≡ exec s 48 (header_by eac3 (seen eac3 s)) 0 0 m → Opened s m (Err x) mu
