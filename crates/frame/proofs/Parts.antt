@@ -17,6 +17,9 @@ use Rattle.reading.specs.Room.{Room, size, cut, fill, Out, got, into, exec}
 use Rattle.reading.proofs.Rooms.{cut-same, go_on, ◌then◌, exec-bind, exec-is, into-after}
 use Rattle.short_frames.specs.ShortFrames.{up_to}
 use Rattle.short_frames.specs.Tested.{tested, unfit_by}
+use Rattle.std.specs.Prelude.{None, Some}
+use Rattle.refusals.specs.Refusals.{number_of}
+use Rattle.refusals.specs.declared.Refusal.{Refusal}
 use Rattle.short_frames.proofs.ShortFrames.{parse-is}
 use Rattle.short_frames.proofs.Sizes.{fit-bounds, unfit-tested, fit-tested}
 use Rattle.syntax.specs.Records.{outcome, halted_at}
@@ -160,18 +163,18 @@ module _ (g : ℕ) (s : List ℕ) (c : Cursor) (st : State) (m : Room) (live : c
   whole-size : n ≡ bytes_of st
   whole-size = let z : cell_of st.cells FRMSIZ % 2048 ≡ cell_of st.cells FRMSIZ = omega arith in en ∙ ap (λ k. 2 * (k + 1)) z
 
-  pub unfit-stops : (k : ℕ) (r : Cursor) → k ≡ unfit_by g n (length s) → 0 < k → r ≡ halted_at c.at.0 c.count k → outcome r st m ≡ followed c st m (tested g eac3 s)
+  pub unfit-stops : (f : Refusal) (r : Cursor) → Some f ≡ unfit_by g n (length s) → r ≡ halted_at c.at.0 c.count (number_of f) → outcome r st m ≡ followed c st m (tested g eac3 s)
   unfolding eac3
-  unfit-stops k r e i q =
+  unfit-stops f r e q =
       goes_on c st m (tested g eac3 s) _ live
-      (rw (q, unfit-tested eac3 s st c.at.0 g k i (e ∙ ap (λ b. unfit_by g b (length s)) whole-size)) (none-placed k c.at.0 c.count m))
+      (rw (q, unfit-tested eac3 s st c.at.0 g f (e ∙ ap (λ b. unfit_by g b (length s)) whole-size)) (none-placed (number_of f) c.at.0 c.count m))
 
   -- the body, and what follows it
-  module _ (k : ℕ) (ek : k ≡ unfit_by g n (length s)) (h : k ≤ 0) (l : ℕ) (el : l ≡ 8 * n) (d : Cursor) (su : State) (mu : Room) (e : outcome d su mu ≡ exec s l (meaning body st) c.at.0 c.count m) where
+  module _ (fit : None ≡ unfit_by g n (length s)) (l : ℕ) (el : l ≡ 8 * n) (d : Cursor) (su : State) (mu : Room) (e : outcome d su mu ≡ exec s l (meaning body st) c.at.0 c.count m) where
     pub whole : (o : Out State) → o ≡ followed d su mu (finish tail_names s l) → o ≡ followed c st m (tested g eac3 s)
     unfolding eac3 framed
     whole o q =
-        let f = fit-bounds g n (length s) k ek h in
+        let f = fit-bounds g n (length s) fit in
         let x : bytes_of st ≤ g = omega (arith, whole-size, f.0) in
         let y : bytes_of st ≤ length s = omega (arith, whole-size, f.1) in
         goes_on c st m (tested g eac3 s) _ live

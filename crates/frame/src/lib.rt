@@ -63,9 +63,8 @@ fn framed(
         return cur;
     }
     let bytes = bytes_of(cells);
-    let number = unfit(greatest, bytes, src.len());
-    if 0 < number {
-        return halted(cur.at, cur.count, number);
+    if let Some(refusal) = unfit(greatest, bytes, src.len()) {
+        return halted(cur.at, cur.count, refusal.number());
     }
     let limit = bytes.bits();
     let c = each(

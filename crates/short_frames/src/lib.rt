@@ -5,16 +5,18 @@ ghost use Rattle.std.specs.Prelude.{◌≡◌};
 ghost use Rattle.short_frames.specs.Tested.{unfit_by};
 
 use bits::ByteCount;
+use refusals::Refusal;
 
-// The refusal of a frame of so many bytes: 46 where it is above the greatest, 4 where the slice does not hold it, or 0.
-pub fn unfit(greatest: ByteCount, bytes: ByteCount, long: usize) -> u8
+// The refusal of a frame of so many bytes: it is above the greatest, or the slice does not hold it.
+#[tactic(auto, unfolding(crate::specs::Tested::unfit_by))]
+pub fn unfit(greatest: ByteCount, bytes: ByteCount, long: usize) -> Option<Refusal>
     ensures { result ≡ unfit_by greatest.0 bytes.0 long }
 {
-    if greatest.0 < bytes.0 {
-        return 46;
+    if greatest < bytes {
+        return Some(Refusal::LongFrame);
     }
     if long < bytes.0 as usize {
-        return 4;
+        return Some(Refusal::ShortFrame);
     }
-    0
+    None
 }

@@ -1,5 +1,6 @@
-use mathlib.Core.Path.{refl, ◌∙◌}
+use mathlib.Core.Path.{refl, ap, ◌∙◌}
 use native.Mathlib.Omega.{arith}
+use Rattle.syntax.specs.Records.{halted_at}
 use Rattle.syntax.proofs.Rooms.{same-fills}
 use Rattle.walk.proofs.Walks.{turned-once}
 use Rattle.annex.specs.Annex.{body}
@@ -11,14 +12,14 @@ use Rattle.frame.proofs.framed.Goals as goal
 pub returns-then-cur : goal.returns-then-cur
 returns-then-cur c = record { bins = _; is = stays _ _ _ _ c.if-cur.true }
 
-pub returns-then-number-gt0 : goal.returns-then-number-gt0
-returns-then-number-gt0 c = record { bins = _; is = unfit-stops _ _ _ _ _ c.if-cur.false (c.requires.small c.if-cur.false) _ c.bytes_of-bytes.ensures.0 _ c.halted.result c.unfit-number.ensures c.if-number-gt0.true c.halted.ensures }
+pub returns-in-Some : goal.returns-in-Some
+returns-in-Some c = record { bins = _; is = unfit-stops _ _ _ _ _ c.if-cur.false (c.requires.small c.if-cur.false) _ c.bytes_of-bytes.ensures.0 _ c.halted.result c.in-Some.ensures (c.halted.ensures ∙ ap (halted_at _ _) c.number.ensures) }
 
 pub bits-limit-requires : goal.bits-limit-requires
 bits-limit-requires c = omega (arith, c.bytes_of-bytes.ensures.1)
 
 pub each-c-requires : goal.each-c-requires
-each-c-requires c = record { what = body; stands = c.requires.annexed.bodied; table = c.requires.annexed.table; within = omega (arith, c.bits-limit.ensures, (fit-bounds _ _ _ _ c.unfit-number.ensures c.if-number-gt0.false).1); right = c.requires.right; fills = c.requires.fills }
+each-c-requires c = record { what = body; stands = c.requires.annexed.bodied; table = c.requires.annexed.table; within = omega (arith, c.bits-limit.ensures, (fit-bounds _ _ _ c.in_default.ensures).1); right = c.requires.right; fills = c.requires.fills }
 
 pub shape_of-names-then-c : goal.shape_of-names-then-c
 shape_of-names-then-c c = c.each-c.auto.names
@@ -39,13 +40,13 @@ pub shape_of-values-then-c : goal.shape_of-values-then-c
 shape_of-values-then-c c = c.each-c.auto.values
 
 pub returns-then-c : goal.returns-then-c
-returns-then-c c = record { bins = _; is = body-stops _ _ _ _ _ c.if-cur.false (c.requires.small c.if-cur.false) _ c.bytes_of-bytes.ensures.0 _ c.unfit-number.ensures c.if-number-gt0.false _ c.bits-limit.ensures c.each-c.result _ _ (turned-once c.each-c.ensures body c.requires.annexed.bodied) c.if-c.true }
+returns-then-c c = record { bins = _; is = body-stops _ _ _ _ _ c.if-cur.false (c.requires.small c.if-cur.false) _ c.bytes_of-bytes.ensures.0 c.in_default.ensures _ c.bits-limit.ensures c.each-c.result _ _ (turned-once c.each-c.ensures body c.requires.annexed.bodied) c.if-c.true }
 
 pub tail_cells-ends-requires : goal.tail_cells-ends-requires
-tail_cells-ends-requires c = (omega (arith, c.bits-limit.ensures, c.bytes_of-bytes.ensures.0), omega (arith, c.bits-limit.ensures, (fit-bounds _ _ _ _ c.unfit-number.ensures c.if-number-gt0.false).1))
+tail_cells-ends-requires c = (omega (arith, c.bits-limit.ensures, c.bytes_of-bytes.ensures.0), omega (arith, c.bits-limit.ensures, (fit-bounds _ _ _ c.in_default.ensures).1))
 
 pub each-requires : goal.each-requires
-each-requires c = record { what = tail; stands = c.requires.annexed.tailed; table = c.requires.annexed.table; within = omega (arith, c.bits-limit.ensures, (fit-bounds _ _ _ _ c.unfit-number.ensures c.if-number-gt0.false).1); right = c.each-c.ensures.right; fills = same-fills (record { names = c.each-c.auto.names; blocks = c.each-c.auto.blocks; indexes = c.each-c.auto.indexes; firsts = c.each-c.auto.firsts; widths = c.each-c.auto.widths; values = c.each-c.auto.values }) _ c.requires.fills }
+each-requires c = record { what = tail; stands = c.requires.annexed.tailed; table = c.requires.annexed.table; within = omega (arith, c.bits-limit.ensures, (fit-bounds _ _ _ c.in_default.ensures).1); right = c.each-c.ensures.right; fills = same-fills (record { names = c.each-c.auto.names; blocks = c.each-c.auto.blocks; indexes = c.each-c.auto.indexes; firsts = c.each-c.auto.firsts; widths = c.each-c.auto.widths; values = c.each-c.auto.values }) _ c.requires.fills }
 
 pub shape_of-names : goal.shape_of-names
 shape_of-names c = c.each.auto.names ∙ c.each-c.auto.names
@@ -69,6 +70,6 @@ pub returns : goal.returns
 returns c =
     record {
       bins = _;
-      is = tail-follows _ _ _ _ _ c.if-cur.false (c.requires.small c.if-cur.false) _ c.bytes_of-bytes.ensures.0 _ c.unfit-number.ensures c.if-number-gt0.false _ c.bits-limit.ensures c.each-c.result _ _ (turned-once c.each-c.ensures body c.requires.annexed.bodied) c.if-c.false c.each.result _
+      is = tail-follows _ _ _ _ _ c.if-cur.false (c.requires.small c.if-cur.false) _ c.bytes_of-bytes.ensures.0 c.in_default.ensures _ c.bits-limit.ensures c.each-c.result _ _ (turned-once c.each-c.ensures body c.requires.annexed.bodied) c.if-c.false c.each.result _
           (tail-outcome _ _ _ (omega (arith, c.bits-limit.ensures, c.bytes_of-bytes.ensures.1)) (omega (arith, c.each-c.type_inv)) _ refl _ _ _ c.each.result _ _ _ _ c.tail_cells-ends.ensures (turned-once c.each.ensures tail c.requires.annexed.tailed));
     }
