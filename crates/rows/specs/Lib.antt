@@ -3,3 +3,4 @@ pub mod Rows
 pub mod Steps
 pub mod Standing
 pub mod Unkept
+pub mod Kinds

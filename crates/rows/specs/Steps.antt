@@ -1,5 +1,7 @@
 -- What one row comes to.
-use Rattle.std.specs.Prelude.{ℕ, ◌+◌, ◌-◌, ◌*◌, ◌%◌, cond, ◌≡◌, ltb, eqb}
+use Rattle.std.specs.Prelude.{ℕ, ◌+◌, ◌-◌, ◌*◌, ◌%◌, cond, ◌≡◌, ltb, eqb, Result, Ok, Err}
+use Rattle.refusals.specs.declared.Refusal.{Refusal}
+use Rattle.refusals.specs.Refusals.{number_of as refusal_number}
 use Rattle.reading.specs.Tree.{Tree, done, ahead, span as spanned, scan}
 use Rattle.cells.specs.Cells.{State, state, Addr, Sum, cell_of, place_of, held_of, sum_of, stored, stored_all, part_of}
 use Rattle.derivations.specs.Derivations.{derived}
@@ -51,6 +53,11 @@ step_of (Each k i n r) p st = loops (sum_of i st.cells) (count_of n st.cells) k 
 -- what a row that reads nothing comes to, at the place p
 pub record Dealt (w p : ℕ) (st : State) (n : ℕ) (st' : State) : Type 0 where
   pub is : step_of (row_of w) p st ≡ deals (dealing n (stop_in w) st')
+
+-- the number of a refusal, 0 for none
+abbrev pub refusal_in : Result (Unit {0}) Refusal → ℕ
+refusal_in (Ok u) = 0
+refusal_in (Err r) = refusal_number r
 
 -- one element of a row, the bits of a span, the mantissas
 abbrev pub one_in : ℕ → State → Tree State

@@ -10,87 +10,82 @@
 //   derive     kind 0, derivation 5 (8)
 //   each       kind 0, form 4 (3), counter 7 (5), to 12 (10), by 22 (5), row 27 (4), first 31 (5), first cell 36 (10), rows 46 (10)
 //
-// The functions read of the number what they need.
-ghost use Rattle.std.specs.Prelude.{◌≡◌, ◌%◌, ◌<◌, ◌≤◌};
+// The functions read of the number what they need, by `field`.
+ghost use Rattle.std.specs.Prelude.{◌≡◌, ◌/◌, ◌%◌, ◌^◌, ◌<◌, ◌≤◌};
 ghost use Rattle.cells.specs.Cells.{place_of, sum_of, addr, signed};
 ghost use Rattle.rows.specs.Rows.{name_in, width_in, keep_in, index_in, slot_in};
 
+use crate::kinds::Kind;
 use cells::cell_of;
+
+// The field of so many bits of a row's number, from the bit `first` on.
+pub(crate) fn field(w: u64, first: u32, bits: u32) -> usize
+    requires { (first < 64) × (bits ≤ 16) }
+    ensures { result ≡ w / 2 ^ first % 2 ^ bits }
+{
+    (w >> first & ((1 << bits) - 1)) as usize
+}
 
 pub fn name_of(w: u64) -> u8
     ensures { result ≡ name_in w }
 {
-    (w / 16 % 256) as u8
+    field(w, 4, 8) as u8
 }
 
 pub fn width_of(w: u64) -> u16
     ensures { result ≡ width_in w }
 {
-    (w / 4096 % 32) as u16
+    field(w, 12, 5) as u16
 }
 
-fn wide(x: u16) -> usize
-    ensures { (result ≡ x) × (result < 65536) }
-{
-    x as usize
-}
-
-// The cell at an address.
+// The cell at an address: a first cell, and the cells of two counters.
 pub fn spot(base: usize, by: usize, row: usize, cells: &[u16; 1024]) -> usize
     requires { base < 1024 }
     ensures { (result ≡ place_of (addr base by row) cells.now) × (result ≤ 590838) }
 {
-    base + wide(cell_of(cells, by)) + 8 * wide(cell_of(cells, row))
+    base + usize::from(cell_of(cells, by)) + 8 * usize::from(cell_of(cells, row))
 }
 
-// The cell that keeps an element. An element of kind 0 has no counters.
+// The cell that keeps an element. A plain element has no counters.
 pub fn keep_of(w: u64, cells: &[u16; 1024]) -> usize
     ensures { (result ≡ place_of (keep_in w) cells.now) × (result ≤ 590838) }
 {
-    let base = (w / 131072 % 1024) as usize;
-    if w % 16 == 0 {
-        return base;
+    let base = field(w, 17, 10);
+    match Kind::of(w) {
+        Kind::Element => base,
+        _ => spot(base, field(w, 27, 5), field(w, 32, 4), cells),
     }
-    spot(
-        base,
-        (w / 134217728 % 32) as usize,
-        (w / 4294967296 % 16) as usize,
-        cells,
-    )
 }
 
 // One more than the index of a record, 0 for none.
 pub fn index_of(w: u64, cells: &[u16; 1024]) -> u32
     ensures { result ≡ sum_of (index_in w) cells.now }
 {
-    let number = (w / 68719476736 % 8) as u32;
-    if w % 16 == 0 {
-        return number;
+    let number = field(w, 36, 3) as u32;
+    match Kind::of(w) {
+        Kind::Element => number,
+        _ => number + cell_of(cells, field(w, 39, 5)) as u32,
     }
-    let k = (w / 549755813888 % 32) as usize;
-    number + cell_of(cells, k) as u32
 }
 
 // The slot of a set of exponents.
 pub fn slot_of(w: u64, cells: &[u16; 1024]) -> u8
     ensures { result ≡ sum_of (slot_in w) cells.now % 256 }
 {
-    let number = (w / 4096 % 8) as u32;
-    let k = (w / 32768 % 32) as usize;
-    ((number + cell_of(cells, k) as u32) % 256) as u8
+    let counter = usize::from(cell_of(cells, field(w, 15, 5)));
+    ((field(w, 12, 3) + counter) % 256) as u8
 }
 
 // A part of a record, of a number that is one more.
+// Stays: two functions; one over both types would need a trait for a line each, which is no plainer.
 pub fn block_part(n: u16) -> i8
     ensures { result ≡ signed 128 n }
 {
-    let k = n % 128;
-    if k == 0 { -1 } else { (k - 1) as i8 }
+    (n % 128) as i8 - 1
 }
 
 pub fn index_part(n: u32) -> i16
     ensures { result ≡ signed 32768 n }
 {
-    let k = n % 32768;
-    if k == 0 { -1 } else { (k - 1) as i16 }
+    (n % 32768) as i16 - 1
 }

@@ -2,4 +2,5 @@
 #![tactic(auto)]
 
 pub mod fields; // the parts of a row's number
+pub mod kinds; // what a row is
 pub mod steps; // rows that read nothing

@@ -1,115 +1,88 @@
 // Rows that read nothing: conditions, refusals, values, derivations; and what a loop counts.
-ghost use Rattle.std.specs.Prelude.{◌≡◌, cond, ◌+◌, ◌-◌, ◌*◌, ◌/◌, ◌%◌, ◌≤◌, ◌<◌, min, eqb};
+ghost use Rattle.std.specs.Prelude.{◌≡◌, ◌≢◌, cond, IfErr, ◌+◌, ◌-◌, ◌*◌, ◌%◌, ◌≤◌, ◌<◌, eqb};
 ghost use Rattle.slots.specs.Held.{Bins};
+ghost use Rattle.refusals.specs.Refusals.{number_of};
 ghost use Rattle.cells.specs.Cells.{state, cell_of, place_of, held_of, put_in};
-ghost use Rattle.rows.specs.Syntax.{amount_of, number_of, count_of, filled};
-ghost use Rattle.rows.specs.Rows.{at_in, mask_in, masked, put_at_in, of_in, value_in, filled_in, many_in, x_in, y_in, relation_in, compared_in, with_in, compares, stop_in, loop_to, loop_in, rows_in, to_in, from_in, counter_in};
-ghost use Rattle.rows.specs.Steps.{Dealt};
+ghost use Rattle.rows.specs.Syntax.{amount_of, number_of as other_of, count_of, filled};
+ghost use Rattle.rows.specs.Kinds.{value_by};
+ghost use Rattle.rows.specs.Rows.{at_in, mask_in, masked, put_at_in, of_in, filled_in, many_in, x_in, y_in, relation_in, compared_in, with_in, compares, stop_in, loop_to, loop_in, rows_in, to_in, from_in, counter_in};
+ghost use Rattle.rows.specs.Steps.{Dealt, refusal_in};
 
-use crate::fields::spot;
+use crate::fields::{field, spot};
+use crate::kinds::{Form, Kind, Relation};
 use bits::BitPlace;
 use cells::{cell_of, put};
-
-// A cell's value, and 15 for all above.
-fn capped(v: u16) -> u64
-    ensures { (result ≡ min v 15) × (result < 16) }
-{
-    if v < 15 { v as u64 } else { 15 }
-}
+use refusals::Refusal;
 
 // The cell of a condition. Only odd kinds have counters.
 fn tested(w: u64, cells: &[u16; 1024]) -> usize
     ensures { result ≡ place_of (at_in w) cells.now }
 {
-    let base = (w / 16 % 1024) as usize;
+    let base = field(w, 4, 10);
     if w % 2 == 1 {
-        return spot(
-            base,
-            (w / 16384 % 32) as usize,
-            (w / 524288 % 16) as usize,
-            cells,
-        );
+        spot(base, field(w, 14, 5), field(w, 19, 4), cells)
+    } else {
+        base
     }
-    base
 }
 
-// Whether the mask of a row has the value of its cell.
+// Whether the mask of a row has the value of its cell, and 15 for all above.
 pub fn holds(w: u64, cells: &[u16; 1024]) -> bool
     ensures { result ≡ masked (mask_in w) (at_in w) cells.now }
 {
-    let v = capped(cell_of(cells, tested(w, cells)));
-    (w / 8388608 % 65536 >> v) % 2 == 1
+    let v = cell_of(cells, tested(w, cells)).min(15);
+    (field(w, 23, 16) >> v) % 2 == 1
 }
 
 // How many rows a condition passes that fails.
 pub fn rows_of(w: u64) -> usize
     ensures { (result ≡ rows_in w) × (result < 1024) }
 {
-    (w / 18014398509481984 % 1024) as usize
+    field(w, 54, 10)
 }
 
 // The number that a value is made of, and those that a fill and a comparison have.
 fn source(w: u64, cells: &[u16; 1024]) -> u16
     ensures { result ≡ held_of (of_in w) cells.now }
 {
-    let k = spot(
-        (w / 67108864 % 1024) as usize,
-        (w / 68719476736 % 32) as usize,
-        0,
-        cells,
-    );
-    cell_of(cells, k)
-}
-
-fn less(a: u32, b: u32) -> u32
-    ensures { result ≡ a - b }
-{
-    if b < a { a - b } else { 0 }
+    cell_of(cells, spot(field(w, 26, 10), field(w, 36, 5), 0, cells))
 }
 
 // x + y a
 fn linear(w: u64, a: u16) -> u32
     ensures { result ≡ x_in w + y_in w * a }
 {
-    (w / 2199023255552 % 256) as u32 + (w / 562949953421312 % 32) as u32 * a as u32
+    field(w, 41, 8) as u32 + field(w, 49, 5) as u32 * a as u32
+}
+
+// y a - x
+fn reduced(w: u64, a: u16) -> u32
+    ensures { result ≡ y_in w * a - x_in w }
+{
+    (field(w, 49, 5) as u32 * a as u32).saturating_sub(field(w, 41, 8) as u32)
 }
 
 // What is put into a cell.
-fn amount(w: u64, at: BitPlace, cells: &[u16; 1024]) -> u32
-    ensures { result ≡ amount_of (value_in w) at.0 cells.now }
+fn amount(w: u64, form: Form, at: BitPlace, cells: &[u16; 1024]) -> u32
+    ensures { result ≡ amount_of (value_by form w) at.0 cells.now }
 {
-    let form = w / 16 % 8;
-    if form == 0 {
-        return at.0 as u32;
-    }
     let a = source(w, cells);
-    if form == 1 {
-        return linear(w, a);
+    let b = cell_of(cells, field(w, 41, 10));
+    match form {
+        Form::Here => at.0 as u32,
+        Form::Let => linear(w, a),
+        Form::Less => reduced(w, a),
+        Form::Plus => a as u32 + b as u32,
+        Form::Minus => a.saturating_sub(b) as u32,
     }
-    if form == 2 {
-        return less(
-            (w / 562949953421312 % 32) as u32 * a as u32,
-            (w / 2199023255552 % 256) as u32,
-        );
-    }
-    let b = cell_of(cells, (w / 2199023255552 % 1024) as usize);
-    if form == 3 {
-        return a as u32 + b as u32;
-    }
-    less(a as u32, b as u32)
 }
 
-// The row of a value.
-fn set(w: u64, at: BitPlace, cells: &mut [u16; 1024])
-    ensures { cells.new ≡ put_in cells.old (place_of (put_at_in w) cells.old) (amount_of (value_in w) at.0 cells.old) }
+// A value, put into its cell.
+fn set(w: u64, form: Form, at: BitPlace, cells: &mut [u16; 1024])
+    ensures { cells.new ≡ put_in cells.old (place_of (put_at_in w) cells.old) (amount_of (value_by form w) at.0 cells.old) }
 {
-    let k = spot(
-        (w / 128 % 1024) as usize,
-        (w / 131072 % 32) as usize,
-        (w / 4194304 % 16) as usize,
-        cells,
-    );
-    let v = amount(w, at, cells);
+    let k = spot(field(w, 7, 10), field(w, 17, 5), field(w, 22, 4), cells);
+    let v = amount(w, form, at, cells);
     put(cells, k, v);
 }
 
@@ -118,94 +91,71 @@ fn fill(w: u64, cells: &mut [u16; 1024])
     ensures { cells.new ≡ filled (many_in w) (filled_in w) (x_in w + y_in w * held_of (of_in w) cells.old) cells.old }
 {
     let v = linear(w, source(w, cells));
-    let k = (w / 128 % 1024) as usize;
-    let n = (w / 4194304 % 16) as usize;
-    let mut i: usize = 0;
-    while i < n {
+    let k = field(w, 7, 10);
+    let n = field(w, 22, 4);
+    for i in 0..n {
         put(cells, k + i, v);
-        i += 1;
     }
 }
 
 // The number that a comparison has on its other side.
 fn other(w: u64, cells: &[u16; 1024]) -> u16
-    ensures { result ≡ number_of (with_in w) cells.now }
+    ensures { result ≡ other_of (with_in w) cells.now }
 {
-    if w / 274877906944 % 2 == 0 {
-        return (w / 549755813888 % 65536) as u16;
+    if field(w, 38, 1) == 0 {
+        field(w, 39, 16) as u16
+    } else {
+        cell_of(cells, spot(field(w, 39, 10), field(w, 49, 5), 0, cells))
     }
-    let k = spot(
-        (w / 549755813888 % 1024) as usize,
-        (w / 562949953421312 % 32) as usize,
-        0,
-        cells,
-    );
-    cell_of(cells, k)
-}
-
-fn related(w: u64, a: u16, b: u16) -> bool
-    ensures { result ≡ compares (relation_in w) a b }
-{
-    let relation = w / 32 % 4;
-    if relation == 0 {
-        return a != b;
-    }
-    if relation == 1 {
-        return b < a;
-    }
-    if relation == 2 {
-        return a < b;
-    }
-    b <= a
 }
 
 fn compared(w: u64, cells: &[u16; 1024]) -> bool
-    ensures { result ≡ compares (relation_in w) (held_of (compared_in w) cells.now) (number_of (with_in w) cells.now) }
+    ensures { result ≡ compares (relation_in w) (held_of (compared_in w) cells.now) (other_of (with_in w) cells.now) }
 {
-    let k = spot(
-        (w / 128 % 1024) as usize,
-        (w / 131072 % 32) as usize,
-        0,
-        cells,
-    );
-    related(w, cell_of(cells, k), other(w, cells))
+    let a = cell_of(cells, spot(field(w, 7, 10), field(w, 17, 5), 0, cells));
+    Relation::of(w).holds(a, other(w, cells))
 }
 
-// A value, a fill, a refusal or a comparison: 0, or a refusal's number.
-pub fn deal(w: u64, at: BitPlace, cells: &mut [u16; 1024]) -> u8
-    requires { (10 ≤ w % 16) × (w % 16 < 14) × (¬ (w % 16 ≡ 12)) }
-    ensures { (b : Bins) → Dealt w at.0 (state cells.old b) result (state cells.new b) }
+// The refusal of a row whose test holds. The number 0 refuses nothing.
+fn refused(holds: bool, number: usize) -> Result<(), Refusal>
+    requires { number < 256 }
+    ensures is { refusal_in result ≡ cond holds number 0 }
+    ensures refused { IfErr result (λ r. number_of r ≢ 0) }
 {
-    let kind = w % 16;
-    if kind == 10 {
-        if w / 16 % 8 < 5 {
-            set(w, at, cells);
-            return 0;
+    if holds && number != 0 {
+        Err(Refusal::ByRow(number as u8))
+    } else {
+        Ok(())
+    }
+}
+
+// An assignment, a refusal or a comparison.
+pub fn deal(w: u64, at: BitPlace, cells: &mut [u16; 1024]) -> Result<(), Refusal>
+    requires { (10 ≤ w % 16) × (w % 16 < 14) × (¬ (w % 16 ≡ 12)) }
+    ensures dealt { (b : Bins) → Dealt w at.0 (state cells.old b) (refusal_in result) (state cells.new b) }
+    ensures refused { IfErr result (λ r. number_of r ≢ 0) }
+{
+    match Kind::of(w) {
+        Kind::Assignment => {
+            match Form::of(w) {
+                Some(form) => set(w, form, at, cells),
+                None => fill(w, cells),
+            }
+            Ok(())
         }
-        fill(w, cells);
-        return 0;
+        Kind::Refusal => refused(holds(w, cells), field(w, 54, 8)),
+        _ => refused(compared(w, cells), field(w, 22, 6)),
     }
-    if kind == 11 {
-        if holds(w, cells) {
-            return (w / 18014398509481984 % 256) as u8;
-        }
-        return 0;
-    }
-    if compared(w, cells) {
-        return (w / 4194304 % 64) as u8;
-    }
-    0
 }
 
 // The place of a refusal: the present one, or that in a cell where it lies ahead.
 pub fn stop_at(w: u64, at: BitPlace, cells: &[u16; 1024]) -> BitPlace
     ensures { result.0 ≡ at.0 + (cell_of cells.now (stop_in w) - at.0) }
 {
-    if w % 16 != 13 {
-        return at;
+    match Kind::of(w) {
+        Kind::Comparison => BitPlace(at.0.max(cell_of(cells, field(w, 28, 10)))),
+        _ => at,
     }
-    let place = cell_of(cells, (w / 268435456 % 1024) as usize);
-    if place < at.0 { at } else { BitPlace(place) }
 }
 
 // What a loop counts: from, up to, in which cell; and how many rows it has.
@@ -220,32 +170,22 @@ pub struct Loop {
 fn count_of(w: u64, cells: &[u16; 1024]) -> u32
     ensures { result ≡ count_of (loop_to w) cells.now }
 {
-    let to = (w / 4096 % 1024) as usize;
-    if w / 16 % 8 == 0 {
-        let k = spot(
-            to,
-            (w / 4194304 % 32) as usize,
-            (w / 134217728 % 16) as usize,
-            cells,
-        );
-        return cell_of(cells, k) as u32;
+    let to = field(w, 12, 10);
+    if field(w, 4, 3) == 0 {
+        cell_of(cells, spot(to, field(w, 22, 5), field(w, 27, 4), cells)) as u32
+    } else {
+        to as u32
     }
-    to as u32
 }
 
 pub fn loop_of(w: u64, cells: &[u16; 1024]) -> Loop
     ensures { (result ≡ loop_in w cells.now) × (result.rows < 1024) }
 {
-    let from = (w / 2147483648 % 32) as u32
-        + cell_of(cells, (w / 68719476736 % 1024) as usize) as u32;
-    let to = count_of(w, cells);
-    let counter = (w / 128 % 32) as usize;
-    let rows = (w / 70368744177664 % 1024) as usize;
     Loop {
-        from: from,
-        to: to,
-        counter: counter,
-        rows: rows,
+        from: field(w, 31, 5) as u32 + cell_of(cells, field(w, 36, 10)) as u32,
+        to: count_of(w, cells),
+        counter: field(w, 7, 5),
+        rows: field(w, 46, 10),
     }
 }
 
@@ -254,35 +194,33 @@ pub fn last_of(w: u64, left: u32, last: u32, cells: &[u16; 1024]) -> u32
     ensures { result ≡ cond (eqb left 0) (count_of (to_in w) cells.now) last }
 {
     if left != 0 {
-        return last;
+        last
+    } else if let Kind::Repeated = Kind::of(w) {
+        cell_of(cells, field(w, 44, 10)) as u32
+    } else {
+        1
     }
-    if w % 16 != 2 {
-        return 1;
-    }
-    cell_of(cells, (w / 17592186044416 % 1024) as usize) as u32
 }
 
 pub fn more_of(w: u64, left: u32, last: u32) -> u32
     ensures { result ≡ cond (eqb left 0) (last - from_in w) left }
 {
     if left != 0 {
-        return left;
+        left
+    } else if let Kind::Repeated = Kind::of(w) {
+        last.saturating_sub(field(w, 54, 1) as u32)
+    } else {
+        last
     }
-    if w % 16 != 2 {
-        return last;
-    }
-    let from = (w / 18014398509481984 % 2) as u32;
-    if from < last { last - from } else { 0 }
 }
 
 // The counter of an element holds a number.
 pub fn mark(w: u64, cells: &mut [u16; 1024], j: u32)
     ensures { cells.new ≡ put_in cells.old (counter_in w) j }
 {
-    if w % 16 != 2 {
-        return;
+    if let Kind::Repeated = Kind::of(w) {
+        put(cells, field(w, 55, 5), j);
     }
-    put(cells, (w / 36028797018963968 % 32) as usize, j);
 }
 
 // The row after an element that is to be read so often still.

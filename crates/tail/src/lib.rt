@@ -11,24 +11,14 @@ use bits::{BitPlace, bits_at};
 use cells::numbers::{AUXDATAE, FRAME_END};
 use cells::put;
 
-// The place so many bits before another, or the first.
-fn earlier(at: BitPlace, width: u16) -> BitPlace
-    ensures { result.0 ≡ at.0 - width }
-{
-    if width < at.0 {
-        BitPlace(at.0 - width)
-    } else {
-        BitPlace(0)
-    }
-}
-
 // The cells of the tail: where the frame ends, and auxdatae, which is looked at ahead.
 pub fn tail_cells(src: &[u8], limit: BitPlace) -> [u16; 1024]
     requires { (16 ≤ limit.0) × (limit.0 ≤ 8 * length src.now) }
     ensures { result ≡ put_in (put_in start.cells FRAME_END limit.0) auxdatae (bits_at src.now (limit.0 - 18) 1) }
 {
-    let mut cells: [u16; 1024] = [0; 1024];
+    let auxdatae = BitPlace(limit.0.saturating_sub(18));
+    let mut cells = [0; 1024];
     put(&mut cells, FRAME_END, limit.0 as u32);
-    put(&mut cells, AUXDATAE, bits_at(src, earlier(limit, 18), 1));
+    put(&mut cells, AUXDATAE, bits_at(src, auxdatae, 1));
     cells
 }

@@ -97,9 +97,8 @@ pub fn each(
                 }
                 pc += 1;
             } else if kind < 14 {
-                let number = deal(w, at, cells);
-                if number != 0 {
-                    return halted(stop_at(w, at, cells), count, number);
+                if let Err(refusal) = deal(w, at, cells) {
+                    return halted(stop_at(w, at, cells), count, refusal.number());
                 }
                 pc += 1;
             } else {

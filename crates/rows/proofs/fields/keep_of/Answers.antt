@@ -1,13 +1,13 @@
 use Rattle.rows.specs.Rows.{keep_in}
-use Rattle.rows.proofs.StepLaws.{no-counters}
+use Rattle.rows.proofs.StepLaws.{no-counters, only-element}
 use native.Mathlib.Omega.{arith}
 use borrow.Author.Tests.{eq-eqb, ne_eqb}
 use Rattle.rows.proofs.fields.keep_of.Goals as goal
 
-pub returns-then-w-eq0 : goal.returns-then-w-eq0
+pub returns-in-Element : goal.returns-in-Element
 unfolding keep_in
-returns-then-w-eq0 c = (rw (eq-eqb _ _ c.if-w-eq0.true) (no-counters _ _), omega arith)
+returns-in-Element c = (rw (eq-eqb _ _ c.in-Element.ensures, c.field-base.ensures) (no-counters _ _), omega arith)
 
-pub returns : goal.returns
+pub returns-in_default : goal.returns-in_default
 unfolding keep_in
-returns c = (rw (ne_eqb _ _ c.if-w-eq0.false, c.spot.ensures.0), c.spot.ensures.1)
+returns-in_default c = (rw (ne_eqb _ _ (only-element _ _ c.of.ensures c.in_default.not-Element), c.spot.ensures.0, c.field-base.ensures, c.field.ensures, c.field-in_default.ensures), c.spot.ensures.1)

@@ -1,11 +1,11 @@
+use Rattle.std.proofs.Common.{rules}
 use Rattle.rows.specs.Rows.{loop_to}
-use borrow.Author.Tests.{eq-eqb, ne_eqb}
 use Rattle.rows.proofs.steps.count_of.Goals as goal
 
-pub returns-then-w-eq0 : goal.returns-then-w-eq0
+pub returns-then-field-eq0 : goal.returns-then-field-eq0
 unfolding loop_to
-returns-then-w-eq0 c = rw (eq-eqb _ _ c.if-w-eq0.true, c.cell_of.ensures, c.spot-k.ensures.0)
+returns-then-field-eq0 c = search rules
 
-pub returns : goal.returns
+pub returns-else-field-eq0 : goal.returns-else-field-eq0
 unfolding loop_to
-returns c = rw (ne_eqb _ _ c.if-w-eq0.false)
+returns-else-field-eq0 c = search rules

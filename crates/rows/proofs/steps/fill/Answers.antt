@@ -7,14 +7,11 @@ use Rattle.rows.proofs.steps.fill.Goals as goal
 
 pub loop-i-init : goal.loop-i-init
 unfolding filled
-loop-i-init c = (refl, omega arith)
-
-pub overflow_add-k : goal.overflow_add-k
-overflow_add-k c = record { fits = omega arith }
+loop-i-init c = refl
 
 pub loop-i-preserved : goal.loop-i-preserved
 unfolding filled
-loop-i-preserved c = (rw (add-one, c.put.ensures, c.loop-i.invariant.0) refl, omega arith)
+loop-i-preserved c = rw (add-one, c.put.ensures, c.loop-i.invariant) refl
 
 pub returns : goal.returns
-returns c = fill-ends _ _ _ c.source.ensures _ c.linear-v.ensures _ _ c.loop-i.invariant.0 c.loop-i.invariant.1 (omega arith)
+returns c = fill-ends _ _ _ c.source.ensures _ c.linear-v.ensures _ c.field-k.ensures _ _ c.loop-i.invariant (omega (arith, c.field-n.ensures))

@@ -1,15 +1,12 @@
 use Rattle.rows.specs.Rows.{to_in}
-use Rattle.rows.proofs.StepLaws.{held_plain}
+use Rattle.rows.proofs.StepLaws.{held_plain, only-repeated}
 use borrow.Author.Tests.{eq-eqb, ne_eqb}
 use Rattle.rows.proofs.steps.last_of.Goals as goal
 
-pub returns-then-left-ne0 : goal.returns-then-left-ne0
-returns-then-left-ne0 c = rw (ne_eqb _ _ c.if-left-ne0.true)
-
-pub returns-then-w-ne2 : goal.returns-then-w-ne2
+pub returns-in-Repeated : goal.returns-in-Repeated
 unfolding to_in
-returns-then-w-ne2 c = rw (eq-eqb _ _ c.if-left-ne0.false, ne_eqb _ _ c.if-w-ne2.true)
+returns-in-Repeated c = rw (eq-eqb _ _ c.if-left-ne0.false, eq-eqb _ _ c.in-Repeated.ensures, c.cell_of.ensures, c.field.ensures) (held_plain _ _)
 
-pub returns : goal.returns
+pub returns-in_default : goal.returns-in_default
 unfolding to_in
-returns c = rw (eq-eqb _ _ c.if-left-ne0.false, eq-eqb _ _ c.if-w-ne2.false, c.cell_of.ensures) (held_plain _ _)
+returns-in_default c = rw (eq-eqb _ _ c.if-left-ne0.false, ne_eqb _ _ (only-repeated _ _ c.of.ensures c.in_default.not-Repeated))

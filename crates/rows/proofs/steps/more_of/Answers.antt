@@ -1,19 +1,13 @@
 use Rattle.rows.specs.Rows.{from_in}
+use Rattle.rows.proofs.StepLaws.{only-repeated}
 use native.Mathlib.Omega.{arith}
 use borrow.Author.Tests.{eq-eqb, ne_eqb}
 use Rattle.rows.proofs.steps.more_of.Goals as goal
 
-pub returns-then-left-ne0 : goal.returns-then-left-ne0
-returns-then-left-ne0 c = rw (ne_eqb _ _ c.if-left-ne0.true)
-
-pub returns-then-w-ne2 : goal.returns-then-w-ne2
+pub returns-in-Repeated : goal.returns-in-Repeated
 unfolding from_in
-returns-then-w-ne2 c = rw (eq-eqb _ _ c.if-left-ne0.false, ne_eqb _ _ c.if-w-ne2.true) (omega arith)
+returns-in-Repeated c = rw (eq-eqb _ _ c.if-left-ne0.false, eq-eqb _ _ c.in-Repeated.ensures, c.saturating_sub.ensures, c.field.ensures)
 
-pub returns-then-from-last : goal.returns-then-from-last
+pub returns-in_default : goal.returns-in_default
 unfolding from_in
-returns-then-from-last c = rw (eq-eqb _ _ c.if-left-ne0.false, eq-eqb _ _ c.if-w-ne2.false)
-
-pub returns-else-from-last : goal.returns-else-from-last
-unfolding from_in
-returns-else-from-last c = rw (eq-eqb _ _ c.if-left-ne0.false, eq-eqb _ _ c.if-w-ne2.false) (omega (arith, c.if-from-last.false))
+returns-in_default c = rw (eq-eqb _ _ c.if-left-ne0.false, ne_eqb _ _ (only-repeated _ _ c.of.ensures c.in_default.not-Repeated)) (omega arith)

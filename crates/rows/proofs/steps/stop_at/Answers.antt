@@ -1,11 +1,10 @@
-use Rattle.rows.proofs.StepLaws.{stop-none, stop-here, stop-ahead}
+use mathlib.Core.Path.{ap, ◌∙◌}
+use Rattle.cells.specs.Cells.{cell_of}
+use Rattle.rows.proofs.StepLaws.{stop-none, stop-at, only-comparison}
 use Rattle.rows.proofs.steps.stop_at.Goals as goal
 
-pub returns-then-w-ne13 : goal.returns-then-w-ne13
-returns-then-w-ne13 c = stop-none _ _ _ c.if-w-ne13.true
+pub returns-in-Comparison : goal.returns-in-Comparison
+returns-in-Comparison c = c.max.ensures ∙ stop-at _ _ _ _ (c.cell_of.ensures ∙ ap (cell_of c.args.cells.now) c.field.ensures) c.in-Comparison.ensures
 
-pub returns-then-place-at : goal.returns-then-place-at
-returns-then-place-at c = stop-here _ _ _ _ c.cell_of-place.ensures c.if-w-ne13.false c.if-place-at.true
-
-pub returns-else-place-at : goal.returns-else-place-at
-returns-else-place-at c = stop-ahead _ _ _ _ c.cell_of-place.ensures c.if-w-ne13.false c.if-place-at.false
+pub returns-in_default : goal.returns-in_default
+returns-in_default c = stop-none _ _ _ (only-comparison _ _ c.of.ensures c.in_default.not-Comparison)
