@@ -124,24 +124,6 @@ loop-pc-preserved-then-kind-lt8 t c = rows-gather _ _ _ _ _ _ _ _ _ _ _ _ _ _ _ 
 pub derive-requires : goal.derive-requires
 derive-requires t c = (c.loop-pc.invariant.right.held, c.loop-pc.invariant.right.memo)
 
-pub shape_of-names-in-Err : goal.shape_of-names-in-Err
-shape_of-names-in-Err t c = c.loop-pc.invariant.same.names ∙ c.loop-j.invariant.same.names
-
-pub shape_of-blocks-in-Err : goal.shape_of-blocks-in-Err
-shape_of-blocks-in-Err t c = c.loop-pc.invariant.same.blocks ∙ c.loop-j.invariant.same.blocks
-
-pub shape_of-indexes-in-Err : goal.shape_of-indexes-in-Err
-shape_of-indexes-in-Err t c = c.loop-pc.invariant.same.indexes ∙ c.loop-j.invariant.same.indexes
-
-pub shape_of-firsts-in-Err : goal.shape_of-firsts-in-Err
-shape_of-firsts-in-Err t c = c.loop-pc.invariant.same.firsts ∙ c.loop-j.invariant.same.firsts
-
-pub shape_of-widths-in-Err : goal.shape_of-widths-in-Err
-shape_of-widths-in-Err t c = c.loop-pc.invariant.same.widths ∙ c.loop-j.invariant.same.widths
-
-pub shape_of-values-in-Err : goal.shape_of-values-in-Err
-shape_of-values-in-Err t c = c.loop-pc.invariant.same.values ∙ c.loop-j.invariant.same.values
-
 pub returns-in-Err : goal.returns-in-Err
 returns-in-Err t c = turns-off _ _ _ _ _ _ _ _ _ _ _ _ _ _ _ _ _ _ c.loop-j.invariant c.loop-j-test.true _ c.put.ensures c.halted.result _ _ _ (ap (λ (d : Cursor). d.stopped) c.halted.ensures) (record { held = c.loop-pc.invariant.right.held; memo = c.in-Err.ensures.right }) (deal-off _ _ _ _ _ _ _ _ _ _ _ _ _ _ _ _ _ c.loop-pc.invariant c.loop-pc-test.true _ refl c.if-kind-lt4.false _ _ _ (deal-derive _ _ _ _ c.if-kind-eq12.true _ _ (rw c.number.ensures c.in-Err.ensures.is)) (record { held = c.loop-pc.invariant.right.held; memo = c.in-Err.ensures.right }) (let z = c.in-Err.ensures.numbered in λ e. omega (arith, c.number.ensures)) _ (stop-none _ _ _ (λ e. omega (arith, c.if-kind-eq12.true))) c.halted.result c.halted.ensures)
 
@@ -157,8 +139,8 @@ loop-pc-preserved-then-kind-eq12 t c = rows-deal _ _ _ _ _ _ _ _ _ _ _ _ _ _ _ _
 pub deal-requires : goal.deal-requires
 deal-requires t c = (omega (arith, c.if-kind-eq4.false, c.if-kind-lt8.false, c.if-kind-lt14.true), c.if-kind-lt14.true, c.if-kind-eq12.false)
 
-pub returns-in-Err-2 : goal.returns-in-Err-2
-returns-in-Err-2 t c = turns-off _ _ _ _ _ _ _ _ _ _ _ _ _ _ _ _ _ _ c.loop-j.invariant c.loop-j-test.true _ c.put.ensures c.halted-in-Err-2.result _ _ _ (ap (λ (d : Cursor). d.stopped) c.halted-in-Err-2.ensures) c.loop-pc.invariant.right (deal-off _ _ _ _ _ _ _ _ _ _ _ _ _ _ _ _ _ c.loop-pc.invariant c.loop-pc-test.true _ refl c.if-kind-lt4.false _ _ _ (c.in-Err-2.ensures.dealt _) c.loop-pc.invariant.right c.in-Err-2.ensures.refused _ c.stop_at.ensures c.halted-in-Err-2.result (c.halted-in-Err-2.ensures ∙ ap (halted_at c.stop_at.result.0 c.loop-pc.count) c.number-in-Err-2.ensures))
+pub returns-in-Err-deal : goal.returns-in-Err-deal
+returns-in-Err-deal t c = turns-off _ _ _ _ _ _ _ _ _ _ _ _ _ _ _ _ _ _ c.loop-j.invariant c.loop-j-test.true _ c.put.ensures c.halted-in-Err-deal.result _ _ _ (ap (λ (d : Cursor). d.stopped) c.halted-in-Err-deal.ensures) c.loop-pc.invariant.right (deal-off _ _ _ _ _ _ _ _ _ _ _ _ _ _ _ _ _ c.loop-pc.invariant c.loop-pc-test.true _ refl c.if-kind-lt4.false _ _ _ (c.in-Err-deal.ensures.dealt _) c.loop-pc.invariant.right c.in-Err-deal.ensures.refused _ c.stop_at.ensures c.halted-in-Err-deal.result (c.halted-in-Err-deal.ensures ∙ ap (halted_at c.stop_at.result.0 c.loop-pc.count) c.number-in-Err-deal.ensures))
 
 pub overflow_add-pc-then-kind-lt14 : goal.overflow_add-pc-then-kind-lt14
 overflow_add-pc-then-kind-lt14 t c = omega (arith, stand-end c.requires, c.loop-pc-test.true)
@@ -167,7 +149,7 @@ pub loop-pc-smaller-then-kind-lt14 : goal.loop-pc-smaller-then-kind-lt14
 loop-pc-smaller-then-kind-lt14 t c = weigh-next _ _ _ c.loop-pc-test.true
 
 pub loop-pc-preserved-then-kind-lt14 : goal.loop-pc-preserved-then-kind-lt14
-loop-pc-preserved-then-kind-lt14 t c = rows-deal _ _ _ _ _ _ _ _ _ _ _ _ _ _ _ _ _ c.loop-pc.invariant c.loop-pc-test.true _ refl c.if-kind-lt4.false _ _ _ (c.in_default-2.ensures.dealt _) c.loop-pc.invariant.right refl
+loop-pc-preserved-then-kind-lt14 t c = rows-deal _ _ _ _ _ _ _ _ _ _ _ _ _ _ _ _ _ c.loop-pc.invariant c.loop-pc-test.true _ refl c.if-kind-lt4.false _ _ _ (c.in_default-deal.ensures.dealt _) c.loop-pc.invariant.right refl
 
 pub overflow_add-end : goal.overflow_add-end
 overflow_add-end t c = omega (arith, stand-end c.requires, c.loop-pc-test.true)
