@@ -91,6 +91,7 @@ pub extern "C" fn alloc_by_codes(
         points: &tables::pointers(),
         shares: &[0; 256],
     };
+    // Stays: the two flags among the codes are numbers, as the C interface has them.
     let c = channel_of(start, end, codes);
     let p = params_by(codes);
     let l = leak_by(codes[11] == 1, codes[9], codes[10]);

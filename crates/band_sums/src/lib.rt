@@ -63,6 +63,7 @@ fn below(e: u8) -> u8
 
 // The powers of a channel's bins and the sums of their bands, in one pass: s is the sum of band k, which ends at the bin
 // `to`. The other bins keep 0, and the other bands the level of 0.
+// Stays: two tables by themselves; with `Tables` of `alloc`, `bands` would ask for the others too.
 pub fn bands(
     latab: &[u8; 256],
     ends: &[u8; 50],

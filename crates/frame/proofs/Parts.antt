@@ -19,8 +19,9 @@ use Rattle.short_frames.specs.ShortFrames.{up_to}
 use Rattle.short_frames.specs.Tested.{tested, unfit_by}
 use Rattle.short_frames.proofs.ShortFrames.{parse-is}
 use Rattle.short_frames.proofs.Sizes.{fit-bounds, unfit-tested, fit-tested}
-use Rattle.std.specs.Prelude.{Ok, Err}
+use Rattle.std.specs.Prelude.{Ok, Err, None, Some}
 use Rattle.refusals.specs.Refusals.{number_of}
+use Rattle.refusals.specs.declared.Refusal.{Refusal}
 use Rattle.refusals.specs.declared.Refusal.TheVariants.{ShortSlice}
 use Rattle.syntax.specs.Cursors.{Progress}
 use Rattle.syntax.specs.Records.{outcome}
@@ -151,18 +152,18 @@ module _ (g : ℕ) (s : List ℕ) (c : Cursor) (st : State) (m : Room) (small : 
   whole-size : n ≡ bytes_of st
   whole-size = let z : cell_of st.cells FRMSIZ % 2048 ≡ cell_of st.cells FRMSIZ = omega arith in en ∙ ap (λ k. 2 * (k + 1)) z
 
-  pub unfit-stops : (k : ℕ) → k ≡ unfit_by g n (length s) → 0 < k → got (refused k) c.at.0 c.count m ≡ followed (Ok c) st m (tested g eac3 s)
+  pub unfit-stops : (f : Refusal) → Some f ≡ unfit_by g n (length s) → got (refused (number_of f)) c.at.0 c.count m ≡ followed (Ok c) st m (tested g eac3 s)
   unfolding eac3
-  unfit-stops k e i =
+  unfit-stops f e =
       goes_on c st m (tested g eac3 s) _
-      (rw (unfit-tested eac3 s st c.at.0 g k i (e ∙ ap (λ b. unfit_by g b (length s)) whole-size)) (none-placed k c.at.0 c.count m))
+      (rw (unfit-tested eac3 s st c.at.0 g f (e ∙ ap (λ b. unfit_by g b (length s)) whole-size)) (none-placed (number_of f) c.at.0 c.count m))
 
   -- the body, and what follows it
-  module _ (k : ℕ) (ek : k ≡ unfit_by g n (length s)) (h : k ≤ 0) (l : ℕ) (el : l ≡ 8 * n) (d : Progress) (su : State) (mu : Room) (e : outcome d su mu ≡ exec s l (meaning body st) c.at.0 c.count m) where
+  module _ (fit : None ≡ unfit_by g n (length s)) (l : ℕ) (el : l ≡ 8 * n) (d : Progress) (su : State) (mu : Room) (e : outcome d su mu ≡ exec s l (meaning body st) c.at.0 c.count m) where
     pub whole : (o : Out State) → o ≡ followed d su mu (finish tail_names s l) → o ≡ followed (Ok c) st m (tested g eac3 s)
     unfolding eac3 framed
     whole o q =
-        let f = fit-bounds g n (length s) k ek h in
+        let f = fit-bounds g n (length s) fit in
         let x : bytes_of st ≤ g = omega (arith, whole-size, f.0) in
         let y : bytes_of st ≤ length s = omega (arith, whole-size, f.1) in
         goes_on c st m (tested g eac3 s) _
@@ -176,6 +177,10 @@ module _ (g : ℕ) (s : List ℕ) (c : Cursor) (st : State) (m : Room) (small : 
     pub tail-follows : (k : Cursor) → d ≡ Ok k → (r : Progress) (mt : Room) → outcome r su mt ≡ placed k.count mu (finish tail_names s l su k.at.0) → outcome r su mt ≡ followed (Ok c) st m (tested g eac3 s)
     tail-follows k h r mt q = whole _ (goes_on k su mu (finish tail_names s l) _ q ∙ ap (λ (r : Progress). followed r su mu (finish tail_names s l)) (sym h))
 
+left-of : (r : Progress) (st : State) (m : Room) → (outcome r st m).left ≡ m
+left-of (Ok c) st m = refl
+left-of (Err e) st m = refl
+
 module _ (s : List ℕ) (m : Room) where
   pub whole-answer : (g : ℕ) (c : Progress) (st : State) (mu : Room) (a : Answer) → 6 ≤ length s → outcome c st mu ≡ placed 0 m (read_of g s) → a ≡ answer_from c st.cells
       → ReadBy (up_to g eac3) s m a mu
@@ -184,13 +189,18 @@ module _ (s : List ℕ) (m : Room) where
       let z : size m - 0 ≡ size m = omega arith in
       let p : read_of g s ≡ parse (up_to g eac3) s = sym (parse-is g eac3 s ∙ rw (le-leb 6 (length s) h) refl) in
       let w : outcome c st mu ≡ read_by (up_to g eac3) s m = e ∙ ap (λ k. into 0 m (cut k (read_of g s))) z ∙ ap (λ (o : Outcome State). into 0 m (cut (size m) o)) p in
-      record { answer = ea ∙ answer-from c st mu ∙ ap answer_of w; left = ap (λ (o : Out State). o.left) w }
+      record { answer = ea ∙ answer-from c st mu ∙ ap answer_of w; left = sym (left-of c st mu) ∙ ap (λ (o : Out State). o.left) w }
 
   pub short-answer : (g : ℕ) (e : Stopped) (a : Answer) → length s < 6 → e ≡ record { refusal = ShortSlice; at = record { 0 = 0 }; count = 0 } → a ≡ refusal_from e → ReadBy (up_to g eac3) s m a m
   unfolding answer_of cut fill
   short-answer g e a h k q =
       let p : parse (up_to g eac3) s ≡ out (refused 1) 0 [] = parse-is g eac3 s ∙ rw (lt-leb 6 (length s) h) refl in
       record { answer = rw (q, k, p) refl; left = rw p refl }
+
+  -- the header is refused
+  pub header-answer : (g : ℕ) (r : Progress) (e : Stopped) (st : State) (mu : Room) (a : Answer) → 6 ≤ length s → r ≡ Err e → followed r st mu (tested g eac3 s) ≡ placed 0 m (read_of g s) → a ≡ refusal_from e
+      → ReadBy (up_to g eac3) s m a mu
+  header-answer g r e st mu a h x f q = whole-answer g r st mu a h (stays r e st mu (tested g eac3 s) x ∙ f) (q ∙ ap (λ (r : Progress). answer_from r st.cells) (sym x))
 
 stopped-is : {x y : Stopped} → ◌≡◌ {A = Progress} (Err x) (Err y) → x ≡ y
 stopped-is {x} h = ap (λ (r : Progress). of r) h

@@ -140,6 +140,8 @@ impl<'a> Bands<'a> {
     }
 
     // The excitation of the bands 0 .. to - 1, before the leaks decay.
+    // Stays: `rise`, `middle` and `high` each have a formula of their own; one loop would test at each band which holds, and is
+    // no plainer.
     fn rise(&self, out: &mut [u32; 50], curve: &Curve, mut s: Passed, to: usize) -> Passed
         requires { (to ≤ begin_l self.now.powers.now 0 self.now.last) × (to ≤ 22) }
         ensures { Excites self.now.powers.now curve.now.gains 0 self.now.last 0 to s result out.old out.new }

@@ -91,6 +91,7 @@ impl<'a> Lookup<'a> {
     }
 
     // The same of the bins from .. to - 1 below 28, each of which is a band.
+    // Stays: beside `point`, whose bins have one place; one loop for both would take that place by a closure, and is no plainer.
     fn point_singles(&self, out: &mut [u8], from: usize, to: usize) -> u64
         requires { (from ≤ to) × (to ≤ max from 28) × (to ≤ length out.old) }
         ensures { Pointed self.now.tables.now.shares.now (pointer_l self.now.tables.now.points.now self.now.base self.now.powers.now self.now.places.now) from to out.old out.new result }
@@ -263,6 +264,7 @@ fn base_of(kind: Pointers) -> usize
 
 // The 256 pointers of a channel, into `out`: those of the bins start .. end - 1, and 0 elsewhere. Gives the sum of the shares
 // of these bins' pointers.
+// Stays: `out` is a slice, whose length `exponents` asks for; an array would ask more of the callers of `allocate`.
 pub fn allocate(
     tables: &Tables,
     exps: &[u8],

@@ -5,8 +5,6 @@
 // listed and else 0, how many places and how many values are lent, 20 places, 20 values, the length of the slice, and the slice.
 #![tactic(auto)]
 
-ghost use Rattle.std.specs.Prelude.{◌≤◌};
-
 use ingest::cases::{input_pair, length, slice};
 use listing::{Records, first_line, text_of};
 use mastering::set_words;
@@ -33,13 +31,13 @@ fn set(frame: &mut [u8], places: &[usize], words: &[u32]) -> Records {
         words,
     );
     Records {
-        answer: answer,
-        names: names,
-        blocks: blocks,
-        indexes: indexes,
-        firsts: firsts,
-        widths: widths,
-        values: values,
+        answer,
+        names,
+        blocks,
+        indexes,
+        firsts,
+        widths,
+        values,
     }
 }
 
@@ -65,36 +63,26 @@ fn case(
     write(rt, frame, frame.len())
 }
 
-fn up_to_20(n: usize) -> usize
-    ensures { result ≤ 20 }
-{
-    if n < 20 { n } else { 20 }
-}
-
 fn twenty_places(rt: &HostRuntime) -> Result<[usize; 20]> {
     let mut places = [0usize; 20];
-    let mut k = 0;
-    while k < 20 {
-        places[k] = input_pair(rt)?;
-        k += 1;
+    for place in places.iter_mut() {
+        *place = input_pair(rt)?;
     }
     Ok(places)
 }
 
 fn twenty_words(rt: &HostRuntime) -> Result<[u32; 20]> {
     let mut words = [0u32; 20];
-    let mut k = 0;
-    while k < 20 {
-        words[k] = input_pair(rt)? as u32;
-        k += 1;
+    for word in words.iter_mut() {
+        *word = input_pair(rt)? as u32;
     }
     Ok(words)
 }
 
 fn one(rt: &HostRuntime) -> Result<()> {
     let listed = input_pair(rt)?;
-    let lent = up_to_20(input_pair(rt)?);
-    let beside = up_to_20(input_pair(rt)?);
+    let lent = input_pair(rt)?.min(20);
+    let beside = input_pair(rt)?.min(20);
     let places = twenty_places(rt)?;
     let words = twenty_words(rt)?;
     let n = length(input_pair(rt)?);
@@ -110,10 +98,8 @@ fn one(rt: &HostRuntime) -> Result<()> {
 
 fn main(rt: HostRuntime) -> Result<()> {
     let cases = input_pair(&rt)?;
-    let mut i = 0;
-    while i < cases {
+    for _ in 0..cases {
         one(&rt)?;
-        i += 1;
     }
     Ok(())
 }

@@ -31,13 +31,13 @@ fn set(frame: &mut [u8], place: usize, value: u32) -> Records {
         value,
     );
     Records {
-        answer: answer,
-        names: names,
-        blocks: blocks,
-        indexes: indexes,
-        firsts: firsts,
-        widths: widths,
-        values: values,
+        answer,
+        names,
+        blocks,
+        indexes,
+        firsts,
+        widths,
+        values,
     }
 }
 
@@ -68,10 +68,8 @@ fn one(rt: &HostRuntime) -> Result<()> {
 
 fn main(rt: HostRuntime) -> Result<()> {
     let cases = input_pair(&rt)?;
-    let mut i = 0;
-    while i < cases {
+    for _ in 0..cases {
         one(&rt)?;
-        i += 1;
     }
     Ok(())
 }

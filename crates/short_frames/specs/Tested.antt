@@ -1,7 +1,7 @@
 -- A format that takes short frames only, as code reads it: the header of F, and then the test. Only the code's contracts need this page.
-use Rattle.std.specs.Prelude.{cond, List, [], ℕ, leb, Option, Some, None}
-use Rattle.refusals.specs.Refusals.{number_of}
+use Rattle.std.specs.Prelude.{cond, List, [], ℕ, leb, Option, None, Some}
 use Rattle.refusals.specs.declared.Refusal.{Refusal}
+use Rattle.refusals.specs.declared.Refusal.TheVariants.{ShortFrame, LongFrame}
 use Rattle.reading.specs.Run.{refused, Outcome, out}
 use Rattle.reading.specs.Frame.{Format, sized}
 
@@ -9,10 +9,6 @@ use Rattle.reading.specs.Frame.{Format, sized}
 unfoldable pub tested : {H A : Type 0} → ℕ → Format H A → List ℕ → H → ℕ → Outcome A
 tested greatest F b h p = let r = sized F b h p in cond (leb (F.bytes h) greatest) r (out (refused 46) p [])
 
--- the number of the refusal of a frame of so many bytes in a buffer of so many: above the greatest, or longer than the buffer; 0 for none
-unfoldable pub unfit_by : ℕ → ℕ → ℕ → ℕ
-unfit_by greatest bytes long = cond (leb bytes greatest) (cond (leb bytes long) 0 4) 46
-
-abbrev pub number_if : Option Refusal → ℕ
-number_if None = 0
-number_if (Some r) = number_of r
+-- the refusal of a frame of so many bytes in a buffer of so many: above the greatest, or longer than the buffer
+unfoldable pub unfit_by : ℕ → ℕ → ℕ → Option Refusal
+unfit_by greatest bytes long = cond (leb bytes greatest) (cond (leb bytes long) None (Some ShortFrame)) (Some LongFrame)

@@ -2,16 +2,17 @@
 #![tactic(auto)]
 
 ghost use Rattle.std.specs.Prelude.{◌≡◌};
-ghost use Rattle.short_frames.specs.Tested.{unfit_by, number_if};
+ghost use Rattle.short_frames.specs.Tested.{unfit_by};
 
 use bits::ByteCount;
 use refusals::Refusal;
 
 // The refusal of a frame of so many bytes: it is above the greatest, or the slice does not hold it.
+#[tactic(auto, unfolding(crate::specs::Tested::unfit_by))]
 pub fn unfit(greatest: ByteCount, bytes: ByteCount, long: usize) -> Option<Refusal>
-    ensures { number_if result ≡ unfit_by greatest.0 bytes.0 long }
+    ensures { result ≡ unfit_by greatest.0 bytes.0 long }
 {
-    if greatest.0 < bytes.0 {
+    if greatest < bytes {
         return Some(Refusal::LongFrame);
     }
     if long < bytes.0 as usize {

@@ -1,9 +1,12 @@
-use mathlib.Core.Path.{refl, ◌∙◌}
+use mathlib.Core.Path.{refl, sym, ap, ◌∙◌}
 use native.Mathlib.Omega.{arith}
+use Rattle.short_frames.specs.Tested.{tested}
+use Rattle.syntax.specs.Cursors.{Progress}
 use Rattle.walk.proofs.Walks.{turned-once}
 use Rattle.annex.specs.Annex.{header}
-use Rattle.annex.specs.Frame.{start}
-use Rattle.frame.proofs.Parts.{right-start, small_size, begins-good, whole-answer}
+use Rattle.annex.specs.Frame.{start, eac3}
+use Rattle.frame.specs.Parts.{followed}
+use Rattle.frame.proofs.Parts.{right-start, small_size, begins-good, whole-answer, header-answer}
 use Rattle.frame.proofs.begun.Goals as goal
 
 pub each-header-requires : goal.each-header-requires
@@ -16,8 +19,8 @@ framed-read-requires c = record { annexed = c.annex-table.ensures; right = c.eac
 
 pub returns-in-Ok-clause-read : goal.returns-in-Ok-clause-read
 unfolding start
-returns-in-Ok-clause-read c = whole-answer _ _ _ c.framed-read.result _ _ _ (omega (arith, c.requires.long)) (c.framed-read.ensures.framed.is ∙ ?) c.answer_of.ensures
+returns-in-Ok-clause-read c = whole-answer _ _ _ _ _ _ _ (omega (arith, c.requires.long)) (c.framed-read.ensures.framed.is ∙ ap (λ (r : Progress). followed r _ _ (tested _ eac3 _)) (sym c.in-Ok.is) ∙ begins-good _ _ _ _ _ (turned-once c.each-header.ensures.turned header c.annex-table.ensures.headed) _ c.requires.good) c.answer_of.ensures
 
 pub returns-in-Err-clause-read : goal.returns-in-Err-clause-read
 unfolding start
-returns-in-Err-clause-read c = ?
+returns-in-Err-clause-read c = header-answer _ _ _ _ _ _ _ _ (omega (arith, c.requires.long)) c.in-Err.is (begins-good _ _ _ _ _ (turned-once c.each-header.ensures.turned header c.annex-table.ensures.headed) _ c.requires.good) c.refusal.ensures

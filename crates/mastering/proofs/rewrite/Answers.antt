@@ -1,5 +1,5 @@
 -- The tests; then the words, crc2 and their values.
-use mathlib.Core.Path.{◌≡◌, refl, sym, ap, subst, ◌∙◌}
+use mathlib.Core.Path.{◌≡◌, refl, sym, ap, ◌∙◌}
 use native.Mathlib.Omega.{arith}
 use lib.ListN.{length}
 use Rattle.mastering.specs.SetWords.{items_of, words_number}

@@ -1,7 +1,6 @@
 -- A reading; and where it is accepted, the words and crc2 set.
-use mathlib.Core.Path.{refl, sym, ap, ◌∙◌}
+use mathlib.Core.Path.{refl, ap, ◌∙◌}
 use native.Mathlib.Omega.{arith}
-use Rattle.answer.specs.declared.Verdict.{Verdict}
 use Rattle.mastering.specs.SetWord.{accepted_by}
 use Rattle.mastering.proofs.Entry.{reader-refuses, listed, words-set}
 use Rattle.mastering.proofs.Rewriting.{set-is, refused-is}
