@@ -2,7 +2,6 @@
 #![tactic(auto)]
 
 ghost use Rattle.reading.specs.Room.{room};
-ghost use Rattle.syntax.specs.Rooms.{room_of, SameSlices};
 ghost use Rattle.short_frames.specs.ShortFrames.{up_to};
 ghost use Rattle.annex.specs.Frame.{eac3};
 ghost use Rattle.frame.specs.Parts.{ReadBy};
@@ -19,13 +18,38 @@ const FULL: u16 = 4096;
 
 const SETTOP: u16 = 1536;
 
-// One frame of at most so many bytes, at the beginning of a slice: the frame, or one refusal, and its records in the room.
-fn read(src: &[u8], room: &mut RecordRoom<'_>, greatest: ByteCount) -> Answer
-    ensures read { ReadBy (up_to greatest.0 eac3) src.now (room_of room.old) result (room_of room.new) }
-    ensures same { SameSlices room.old room.new }
+// One frame of at most so many bytes, at the beginning of a slice: the frame, or one refusal, and its records in six lent slices. The room is made here: of what
+// is lent to a function that gives a room back, nothing would be known afterwards.
+fn read(
+    src: &[u8],
+    names: &mut [u8],
+    blocks: &mut [i8],
+    indexes: &mut [i16],
+    firsts: &mut [u16],
+    widths: &mut [u16],
+    values: &mut [u32],
+    greatest: ByteCount,
+) -> Answer
+    ensures { ReadBy (up_to greatest.0 eac3) src.now (room names.old blocks.old indexes.old firsts.old widths.old values.old) result (room names.new blocks.new indexes.new firsts.new widths.new values.new) }
 {
-    match begin(src, room) {
-        Ok(_) => begun(src, room, greatest),
+    let most = names
+        .len()
+        .min(blocks.len())
+        .min(indexes.len())
+        .min(firsts.len())
+        .min(widths.len())
+        .min(values.len());
+    let mut room = RecordRoom {
+        names,
+        blocks,
+        indexes,
+        firsts,
+        widths,
+        values,
+        most,
+    };
+    match begin(src, &mut room) {
+        Ok(_) => begun(src, &mut room, greatest),
         Err(stopped) => refusal(stopped),
     }
 }
@@ -43,8 +67,16 @@ pub fn parse(
 ) -> Answer
     ensures { Called src.now (room names.old blocks.old indexes.old firsts.old widths.old values.old) result (room names.new blocks.new indexes.new firsts.new widths.new values.new) }
 {
-    let mut room = RecordRoom::new(names, blocks, indexes, firsts, widths, values);
-    read(src, &mut room, ByteCount(FULL))
+    read(
+        src,
+        names,
+        blocks,
+        indexes,
+        firsts,
+        widths,
+        values,
+        ByteCount(FULL),
+    )
 }
 
 // The settop entry: one frame of at most 1,536 bytes; a longer one is refusal 46.
@@ -59,6 +91,14 @@ pub fn parse_settop(
 ) -> Answer
     ensures { SettopCalled src.now (room names.old blocks.old indexes.old firsts.old widths.old values.old) result (room names.new blocks.new indexes.new firsts.new widths.new values.new) }
 {
-    let mut room = RecordRoom::new(names, blocks, indexes, firsts, widths, values);
-    read(src, &mut room, ByteCount(SETTOP))
+    read(
+        src,
+        names,
+        blocks,
+        indexes,
+        firsts,
+        widths,
+        values,
+        ByteCount(SETTOP),
+    )
 }
