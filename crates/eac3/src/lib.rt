@@ -11,6 +11,7 @@ use answer::{Answer, refusal};
 use bits::ByteCount;
 use frame::begun;
 use opening::begin;
+use syntax::least;
 use syntax::room::RecordRoom;
 
 // How many bytes a frame has at most: as many as frmsiz can say, and those of a settop box's frame memory.
@@ -32,13 +33,14 @@ fn read(
 ) -> Answer
     ensures { ReadBy (up_to greatest.0 eac3) src.now (room names.old blocks.old indexes.old firsts.old widths.old values.old) result (room names.new blocks.new indexes.new firsts.new widths.new values.new) }
 {
-    let most = names
-        .len()
-        .min(blocks.len())
-        .min(indexes.len())
-        .min(firsts.len())
-        .min(widths.len())
-        .min(values.len());
+    let most = least(
+        names.len(),
+        blocks.len(),
+        indexes.len(),
+        firsts.len(),
+        widths.len(),
+        values.len(),
+    );
     let mut room = RecordRoom {
         names,
         blocks,

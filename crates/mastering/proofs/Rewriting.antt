@@ -12,8 +12,8 @@ use lib.ListN.{length, get_or, set, take, length-set}
 use borrow.Author.Tests.{le-leb, lt-leb, ne_eqb, eqb-true, eqb-false, leb-false}
 use Rattle.std.specs.List.{list_any}
 use Rattle.std.proofs.lemmas.List.Folds.{list_any_more}
-use Rattle.syntax.specs.Records.{halted_at}
-use Rattle.syntax.specs.declared.Cursor.{Cursor}
+use Rattle.refusals.specs.Refusals.{number_of}
+use Rattle.refusals.specs.declared.Refusal.{Refusal}
 use Rattle.answer.specs.Cursors.{refusal_from}
 use Rattle.answer.specs.declared.Answer.{Answer}
 use Rattle.words.specs.Words.{width_of, unfit_of, with_word}
@@ -212,5 +212,5 @@ module _ (s names firsts held : List ℕ) (b n : ℕ) (places words : List ℕ) 
 pub set-is : (a : Answer) (k n : ℕ) → k ≡ 0 → a ≡ answer_with a k n
 set-is a k n e = rw e refl
 
-pub refused-is : (a : Answer) (k n : ℕ) {c : Cursor} {r : Answer} → c ≡ halted_at 0 n k → r ≡ refusal_from c → ¬ (k ≡ 0) → r ≡ answer_with a k n
-refused-is a k n ec er h = er ∙ ap (λ (c : Cursor). refusal_from c) ec ∙ kept k a (refusal_from (halted_at 0 n k)) h
+pub refused-is : (a : Answer) (k : Refusal) (n : ℕ) {r : Answer} → r ≡ refusal_from (record { refusal = k; at = record { 0 = 0 }; count = n }) → (j : ℕ) → number_of k ≡ j → ¬ (j ≡ 0) → r ≡ answer_with a j n
+refused-is a k n er j ej h = rw (← ej) (er ∙ kept (number_of k) a (refusal_from (record { refusal = k; at = record { 0 = 0 }; count = n })) (λ z. h (sym ej ∙ z)))

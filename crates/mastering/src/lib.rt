@@ -12,7 +12,7 @@ use answer::{Answer, Verdict, refusal};
 use bits::{BitPlace, ByteCount};
 use crc::set_crc2;
 use refusals::Refusal;
-use syntax::halted;
+use syntax::Stopped;
 use words::{fits, word_width, write_word};
 
 // Whether an item may be set to a value, in a list of so many records: its place may be beyond the list, an earlier item may
@@ -124,7 +124,11 @@ pub fn set_words(
             frame, names, firsts, values, f.bytes, f.fields, places, words,
         ) {
             Ok(()) => read,
-            Err(why) => refusal(halted(BitPlace(0), f.fields, why.number())),
+            Err(why) => refusal(Stopped {
+                refusal: why,
+                at: BitPlace(0),
+                count: f.fields,
+            }),
         },
     }
 }

@@ -15,7 +15,7 @@ use Rattle.reading.specs.Run.{field_of, refused}
 use Rattle.reading.specs.Frame.{plain}
 use Rattle.reading.specs.Room.{Room, size, pushed, Out, got}
 use Rattle.syntax.specs.Rooms.{Same}
-use Rattle.syntax.proofs.Rooms.{same_refl, same-trans, least-fills}
+use Rattle.syntax.proofs.Rooms.{same_refl, same-trans}
 use Rattle.names.specs.Names.{syncword}
 use Rattle.cells.specs.Cells.{State}
 use Rattle.answer.specs.Answer.{answer_of, count_of}
@@ -244,7 +244,8 @@ before_last start n a b c d = omega arith
 
 pub room-is : (m : Room) {full : ℕ} → full ≡ min (length m.names) (min (length m.blocks) (min (length m.indexes) (min (length m.firsts) (min (length m.widths) (length m.values)))))
     → full ≡ size m
-room-is m {full} e = sym (least-fills m full e).is
+unfolding size
+room-is m e = e
 
 module _ {s : List ℕ} {m : Room} {start l whole n count far at : ℕ} (most : ℕ) {now : Room} (T : Turn s m start whole n count now) (el : l ≡ length s - 5) (ew : whole ≡ min most (l - start)) (u : n < whole)
     {full : ℕ} (ef : full ≡ size m)
@@ -278,8 +279,8 @@ pub number_is : (most : ℕ) {x left number : ℕ} → left ≡ x → number ≡
 number_is most e en = en ∙ ap (λ (n : ℕ). none_number n most) e
 
 -- the number of the refusal where no position is left, or the allowance is used up
-pub numbered : (left most : ℕ) {r : Refusal} {number : ℕ} → r ≡ cond (leb left most) NoPositionLeft AllowanceUsedUp → number ≡ number_of r → number ≡ none_number left most
-numbered left most {r} {number} e f = f ∙ ap number_of e ∙ go (leb left most)
+pub numbered : (left most : ℕ) {r : Refusal} → r ≡ cond (leb left most) NoPositionLeft AllowanceUsedUp → number_of r ≡ none_number left most
+numbered left most {r} e = ap number_of e ∙ go (leb left most)
   where
     go : (b : Bool) → number_of (cond b NoPositionLeft AllowanceUsedUp) ≡ cond b 44 45
     go true = refl

@@ -3,12 +3,14 @@
 
 ghost use Rattle.std.specs.Prelude.{◌≡◌};
 ghost use Rattle.reading.specs.Room.{room};
+ghost use Rattle.refusals.specs.Refusals.{number_of};
 ghost use Rattle.search.specs.Find.{ends_by, not_found, Searched};
 
 use answer::{Answer, Verdict, count_of, refusal};
 use bits::BitPlace;
 use positions::{candidate, furthest, last_count, none_left, positions};
-use syntax::{halted, least};
+use refusals::Refusal;
+use syntax::{Stopped, least};
 
 // What a search gives: the answer of the reading that ended it, its position, and how many positions were tried. Where
 // no position is left, or the allowance is used up, the refusal 44 or 45, at the position 0.
@@ -30,13 +32,17 @@ fn ends(v: Verdict) -> bool
 }
 
 // The answer where no position ends the search.
-fn none_found(number: u8, count: usize, tried: usize) -> Found
-    ensures { result ≡ not_found number count tried }
+fn none_found(none: Refusal, count: usize, tried: usize) -> Found
+    ensures { result ≡ not_found (number_of none) count tried }
 {
     Found {
-        answer: refusal(halted(BitPlace(0), count, number)),
+        answer: refusal(Stopped {
+            refusal: none,
+            at: BitPlace(0),
+            count,
+        }),
         position: 0,
-        tried: tried,
+        tried,
     }
 }
 
@@ -89,11 +95,11 @@ pub fn find(
             return Found {
                 answer: read,
                 position: at,
-                tried: tried,
+                tried,
             };
         }
         count = count_of(verdict, read.frame);
     }
     let none = none_left(capture.len().saturating_sub(start), most);
-    none_found(none.number(), last_count(whole, tries, count), tries)
+    none_found(none, last_count(whole, tries, count), tries)
 }

@@ -1,3 +1,4 @@
 pub mod Recording
 pub mod Returned
 pub mod Rooms
+pub mod Slices

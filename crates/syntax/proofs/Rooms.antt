@@ -1,12 +1,12 @@
--- Rooms that have the same slices. Assumes nothing.
+-- Laws of rooms of one size, for the functions that record. Assumes nothing.
 use mathlib.Core.Path.{refl, ◌∙◌}
-use Rattle.syntax.specs.Rooms.{SameSlices}
-use Rattle.syntax.specs.declared.room.RecordRoom.{RecordRoom}
+use Rattle.reading.specs.Room.{Room}
+use Rattle.syntax.specs.Rooms.{Same}
 
-pub same_refl : (x : RecordRoom) → SameSlices x x
-same_refl x = record { names = refl; blocks = refl; indexes = refl; firsts = refl; widths = refl; values = refl; most = refl }
+pub same_refl : (x : Room) → Same x x
+same_refl x = record { names = refl; blocks = refl; indexes = refl; firsts = refl; widths = refl; values = refl }
 
-pub same-trans : {x y z : RecordRoom} → SameSlices x y → SameSlices y z → SameSlices x z
+pub same-trans : {x y z : Room} → Same x y → Same y z → Same x z
 same-trans p q = record {
   names = q.names ∙ p.names;
   blocks = q.blocks ∙ p.blocks;
@@ -14,5 +14,4 @@ same-trans p q = record {
   firsts = q.firsts ∙ p.firsts;
   widths = q.widths ∙ p.widths;
   values = q.values ∙ p.values;
-  most = q.most ∙ p.most;
 }

@@ -1,5 +1,5 @@
 -- The six slices that records go to, as a room, and that a call keeps them.
-use Rattle.std.specs.Prelude.{◌≡◌, ℕ, List, ℤ}
+use Rattle.std.specs.Prelude.{◌≡◌, ℕ, List, ℤ, length}
 use Rattle.std.specs.Borrow.{MutBor}
 use Rattle.reading.specs.Room.{Room, room}
 use Rattle.syntax.specs.declared.room.RecordRoom.{RecordRoom}
@@ -25,3 +25,12 @@ pub record Lends (n : MutBor (List ℕ)) (b : MutBor (List ℤ)) (i : MutBor (Li
   pub firsts : r.firsts.ghost_name ≡ f.ghost_name
   pub widths : r.widths.ghost_name ≡ w.ghost_name
   pub values : r.values.ghost_name ≡ v.ghost_name
+
+-- two rooms of one size: each list of y is as long as that of x
+pub record Same (x y : Room) : Type 0 where
+  pub names : length y.names ≡ length x.names
+  pub blocks : length y.blocks ≡ length x.blocks
+  pub indexes : length y.indexes ≡ length x.indexes
+  pub firsts : length y.firsts ≡ length x.firsts
+  pub widths : length y.widths ≡ length x.widths
+  pub values : length y.values ≡ length x.values

@@ -3,7 +3,7 @@
 
 pub mod room; // the room that records go to
 
-ghost use Rattle.std.specs.Prelude.{◌≡◌};
+ghost use Rattle.std.specs.Prelude.{◌≡◌, min};
 
 use bits::BitPlace;
 use refusals::Refusal;
@@ -42,4 +42,11 @@ impl Cursor {
             count: self.count,
         }
     }
+}
+
+// The least of six lengths: how many records fit into six slices of those lengths.
+pub fn least(a: usize, b: usize, c: usize, d: usize, e: usize, f: usize) -> usize
+    ensures { result ≡ min a (min b (min c (min d (min e f)))) }
+{
+    a.min(b.min(c.min(d.min(e.min(f)))))
 }

@@ -1,7 +1,7 @@
 // The room for records: six lent slices side by side, one for each part of a record.
 ghost use Rattle.std.specs.Prelude.{◌≡◌, ◌<◌, length, min};
 
-use crate::{Cursor, Label, Stopped};
+use crate::{Cursor, Label, Stopped, least};
 use bits::BitPlace;
 use refusals::Refusal;
 
@@ -36,13 +36,14 @@ impl<'a> RecordRoom<'a> {
         ensures lent { Lends names.entry blocks.entry indexes.entry firsts.entry widths.entry values.entry result }
         ensures room { room_of result ≡ room names.old blocks.old indexes.old firsts.old widths.old values.old }
     {
-        let most = names
-            .len()
-            .min(blocks.len())
-            .min(indexes.len())
-            .min(firsts.len())
-            .min(widths.len())
-            .min(values.len());
+        let most = least(
+            names.len(),
+            blocks.len(),
+            indexes.len(),
+            firsts.len(),
+            widths.len(),
+            values.len(),
+        );
         RecordRoom {
             names,
             blocks,

@@ -1,8 +1,9 @@
 -- What a caller sees: the answer, its place, the number of records, and the room.
-use Rattle.std.specs.Prelude.{ℕ, ◌*◌, min, cond, List, length, replicate}
+use Rattle.std.specs.Prelude.{ℕ, ◌*◌, min, List, Ok, Err, length, replicate}
 use Rattle.reading.specs.Run.{Result, accepted, refused, run}
 use Rattle.reading.specs.Room.{Room, cut, size, Out, got, into}
-use Rattle.syntax.specs.declared.Cursor.{Cursor}
+use Rattle.refusals.specs.Refusals.{number_of}
+use Rattle.syntax.specs.Cursors.{Progress}
 use Rattle.slots.specs.Held.{bins}
 use Rattle.cells.specs.Cells.{State, state}
 use Rattle.rows.specs.Syntax.{meaning}
@@ -15,8 +16,9 @@ plain (refused k) = refused k
 abbrev pub shown : Out State → Out (Unit {0})
 shown o = got (plain o.result) o.place o.count o.left
 
-abbrev pub answer : Cursor → Room → Out (Unit {0})
-answer c m = got (cond c.stopped (refused c.number) (accepted tt)) c.at.0 c.count m
+abbrev pub answer : Progress → Room → Out (Unit {0})
+answer (Ok c) m = got (accepted tt) c.at.0 c.count m
+answer (Err e) m = got (refused (number_of e.refusal)) e.at.0 e.count m
 
 -- a frame ends with the data, at most 4,096 bytes after its start
 abbrev pub limit_of : List ℕ → ℕ

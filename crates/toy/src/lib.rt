@@ -9,7 +9,8 @@ ghost use Rattle.toy.specs.Answer.{answer, limit_of, parsed};
 ghost use Rattle.toy.specs.Table.{Tabled};
 
 use bits::BitPlace;
-use syntax::{Cursor, least};
+use syntax::room::RecordRoom;
+use syntax::{Cursor, Stopped, least};
 use table::TABLE;
 use walk::each;
 
@@ -39,7 +40,7 @@ pub fn parse(
     firsts: &mut [u16],
     widths: &mut [u16],
     values: &mut [u32],
-) -> Cursor
+) -> Result<Cursor, Stopped>
     ensures { answer result (room names.new blocks.new indexes.new firsts.new widths.new values.new)
         ≡ parsed src.now (room names.old blocks.old indexes.old firsts.old widths.old values.old) }
 {
@@ -57,27 +58,21 @@ pub fn parse(
         widths.len(),
         values.len(),
     );
-    each(
-        &table,
-        src,
+    let mut room = RecordRoom {
         names,
         blocks,
         indexes,
         firsts,
         widths,
         values,
-        &mut cells,
-        &mut exps,
-        &mut baps,
-        &mut memo,
-        BitPlace(0),
-        0,
-        limit,
         most,
-        0,
-        81,
-        0,
-        1,
-        0,
+    };
+    let start = Cursor {
+        at: BitPlace(0),
+        count: 0,
+    };
+    each(
+        &table, src, &mut room, &mut cells, &mut exps, &mut baps, &mut memo, start, limit, 0, 81,
+        0, 1, 0,
     )
 }

@@ -4,7 +4,6 @@ use native.Mathlib.Omega.{arith}
 use Rattle.mastering.specs.SetWord.{accepted_by}
 use Rattle.mastering.proofs.Entry.{reader-refuses, listed, words-set}
 use Rattle.mastering.proofs.Rewriting.{set-is, refused-is}
-use Rattle.syntax.specs.Records.{halted_at}
 use Rattle.mastering.proofs.set_words.Goals as goal
 
 pub returns-in-Refused : goal.returns-in-Refused
@@ -22,4 +21,4 @@ pub returns-in-Err : goal.returns-in-Err
 returns-in-Err c =
     let e = c.in-Err.ensures in
     words-set _ _ _ _ _ _ _ _ c.parse-read.ensures (ap accepted_by c.in-Accepted.is) _ _ _ refl e.1 e.2
-    (refused-is _ _ _ (c.halted.ensures ∙ ap (halted_at 0 c.parse-read.result.frame.fields) (c.number.ensures ∙ e.0.0)) c.refusal.ensures (λ z. omega (arith, e.0.1, z)))
+    (refused-is _ _ _ c.refusal.ensures _ e.0.0 (λ z. omega (arith, e.0.1, z)))

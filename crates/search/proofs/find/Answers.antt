@@ -42,4 +42,4 @@ pub loop-tried-preserved : goal.loop-tried-preserved
 loop-tried-preserved c = turn_on _ c.loop-tried.invariant c.saturating_sub.ensures c.positions-whole.ensures c.loop-tried-test.true (room-is (room c.args.names.now c.args.blocks.now c.args.indexes.now c.args.firsts.now c.args.widths.now c.args.values.now) c.least-room.ensures) c.furthest.ensures c.candidate-at.ensures (part_to_end c.args.capture.now c.candidate-at.result) (record { names = c.parse-read.auto.names; blocks = c.parse-read.auto.blocks; indexes = c.parse-read.auto.indexes; firsts = c.parse-read.auto.firsts; widths = c.parse-read.auto.widths; values = c.parse-read.auto.values }) c.parse-read.ensures (sym c.ends.ensures ∙ c.if-ends.false) c.count_of-count.ensures
 
 pub returns : goal.returns
-returns c = turn-none _ c.loop-tried.invariant c.saturating_sub.ensures c.positions-whole.ensures c.positions-tries.ensures c.loop-tried-test.false (number_is _ c.saturating_sub-2.ensures (numbered _ _ c.none_left-none.ensures c.number.ensures)) c.last_count.ensures c.none_found.ensures
+returns c = turn-none _ c.loop-tried.invariant c.saturating_sub.ensures c.positions-whole.ensures c.positions-tries.ensures c.loop-tried-test.false (number_is _ c.saturating_sub-2.ensures (numbered _ _ c.none_left-none.ensures)) c.last_count.ensures c.none_found.ensures

@@ -2,4 +2,4 @@ use mathlib.Core.Path.{refl}
 use Rattle.search.proofs.none_found.Goals as goal
 
 pub returns : goal.returns
-returns c = rw (c.refusal.ensures, c.halted.ensures) refl
+returns c = rw c.refusal.ensures refl

@@ -1,7 +1,7 @@
 use mathlib.Core.Path.{refl, ap, ◌∙◌}
 use native.Mathlib.Omega.{arith}
 use Rattle.syntax.proofs.Returned.{returned}
-use Rattle.syntax.proofs.Rooms.{same-trans}
+use Rattle.syntax.proofs.Slices.{same-trans}
 use Rattle.rows.proofs.StepLaws.{skip_by, stop-none, deal-derive}
 use Rattle.walk.proofs.Walks.{stand-end, stand-ready, stand-opens, turns-on, turns-off, turns-end, rows_none, rows-one, one-off, rows-gather, gather-off, rows-when, rows-deal, deal-off, loop-within, loop-stand, rows-each, each-off, weigh-next, weigh-skip, weigh-past, weigh-more, shorter}
 use Rattle.walk.proofs.+each.Goals as goal

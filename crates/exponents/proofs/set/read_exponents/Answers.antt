@@ -3,7 +3,7 @@ use mathlib.Core.Path.{◌≡◌, refl, ap, sym, ◌∙◌}
 use Prim.Native.Nat.{◌+◌, ◌-◌, ◌*◌}
 use borrow.Author.Tests.{ltb-true, ltb-false}
 use Rattle.syntax.proofs.Returned.{returned}
-use Rattle.syntax.proofs.Rooms.{same_refl, same-trans}
+use Rattle.syntax.proofs.Slices.{same_refl, same-trans}
 use Rattle.exponents.proofs.ExpLaws.{decode-low}
 use Rattle.exponents.proofs.SetLaws.{standing-first, standing-end, standing-past, standing-full, standing-refused, standing-moved, set-read}
 use Rattle.exponents.proofs.set.read_exponents.Goals as goal
