@@ -7,7 +7,7 @@
 
 ghost use Rattle.std.specs.Prelude.{◌≤◌};
 
-use ingest::cases::{input_pair, length, slice};
+use ingest::cases::{Slice, input_pair, input_slice};
 use listing::{Records, first_line, text_of};
 use mastering::set_words;
 use print::write;
@@ -97,14 +97,13 @@ fn one(rt: &HostRuntime) -> Result<()> {
     let beside = up_to_20(input_pair(rt)?);
     let places = twenty_places(rt)?;
     let words = twenty_words(rt)?;
-    let n = length(input_pair(rt)?);
-    let mut bytes = slice(rt, n)?;
+    let Slice { mut buffer, size } = input_slice(rt)?;
     case(
         rt,
         listed,
         &places[..lent],
         &words[..beside],
-        &mut bytes[..n],
+        &mut buffer[..size],
     )
 }
 
