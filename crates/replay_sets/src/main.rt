@@ -5,7 +5,7 @@
 // listed and else 0, how many places and how many values are lent, 20 places, 20 values, the length of the slice, and the slice.
 #![tactic(auto)]
 
-use ingest::cases::{input_pair, length, slice};
+use ingest::cases::{Slice, input_pair, input_slice};
 use listing::{Records, first_line, text_of};
 use mastering::set_words;
 use print::write;
@@ -85,14 +85,13 @@ fn one(rt: &HostRuntime) -> Result<()> {
     let beside = input_pair(rt)?.min(20);
     let places = twenty_places(rt)?;
     let words = twenty_words(rt)?;
-    let n = length(input_pair(rt)?);
-    let mut bytes = slice(rt, n)?;
+    let Slice { mut buffer, size } = input_slice(rt)?;
     case(
         rt,
         listed,
         &places[..lent],
         &words[..beside],
-        &mut bytes[..n],
+        &mut buffer[..size],
     )
 }
 

@@ -5,7 +5,7 @@
 // listed and else 0, the place, the value, the length of the slice, and the slice.
 #![tactic(auto)]
 
-use ingest::cases::{input_pair, length, slice};
+use ingest::cases::{Slice, input_pair, input_slice};
 use listing::{Records, first_line, text_of};
 use mastering::set_word;
 use print::write;
@@ -61,9 +61,8 @@ fn one(rt: &HostRuntime) -> Result<()> {
     let listed = input_pair(rt)?;
     let place = input_pair(rt)?;
     let value = input_pair(rt)?;
-    let n = length(input_pair(rt)?);
-    let mut bytes = slice(rt, n)?;
-    case(rt, listed, place, value as u32, &mut bytes[..n])
+    let Slice { mut buffer, size } = input_slice(rt)?;
+    case(rt, listed, place, value as u32, &mut buffer[..size])
 }
 
 fn main(rt: HostRuntime) -> Result<()> {

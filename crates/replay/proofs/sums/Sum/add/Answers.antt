@@ -1,7 +1,7 @@
 -- By the callees.
 use Rattle.std.proofs.Common.{refl}
 use Rattle.replay.specs.Sums.{add_of}
-use Rattle.replay.proofs.sums.add.Goals as goal
+use Rattle.replay.proofs.sums.Sum.add.Goals as goal
 
 pub returns : goal.returns
 unfolding add_of
