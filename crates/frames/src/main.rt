@@ -5,13 +5,13 @@
 // has: no frame is longer, and what follows a frame is not looked at, so each position gets the answer that it has in the whole.
 #![tactic(auto)]
 
-ghost use Rattle.std.specs.Prelude.{◌≡◌, ◌-◌, ◌≤◌, IfErr, IfOk, drop, min, length, take};
+ghost use Rattle.std.specs.Prelude.{◌≡◌, ◌-◌, IfErr, IfOk, drop, min, take};
 ghost use Rattle.ingest.specs.Ingest.{empty};
 ghost use Rattle.search.specs.Find.{found_in};
 ghost use Rattle.frames.specs.Held.{allowance_of, next_in, rest_of, Shifted};
 
 use answer::{Frame, Verdict};
-use frame_line::{Text, frame_line, heading, last_line, stretch_line};
+use frame_line::{frame_line, heading, last_line, stretch_line};
 use search::{Found, find};
 use std::io::Result;
 use std::num::{wrapping_add_u64, wrapping_add_usize, wrapping_sub_u64};
@@ -123,18 +123,11 @@ fn refilled(rt: &HostRuntime, bytes: &mut [u8], p: Place, first: usize) -> Resul
     })
 }
 
-fn write(rt: &HostRuntime, text: Text) -> Result<()>
-    requires { text.size ≤ length text.bytes }
-{
-    let bytes = text.bytes;
-    print::write(rt, &bytes, text.size)
-}
-
 // Tells of the bytes between two positions, if there are any, and says how many they are.
 fn stretch(rt: &HostRuntime, behind: u64, position: u64) -> Result<u64> {
     let n = wrapping_sub_u64(position, behind);
     if n != 0 {
-        write(rt, stretch_line(behind, n))?;
+        stretch_line(behind, n).write(rt)?;
     }
     Ok(n)
 }
@@ -143,7 +136,7 @@ fn stretch(rt: &HostRuntime, behind: u64, position: u64) -> Result<u64> {
 fn told(rt: &HostRuntime, p: Place, at: usize, frame: Frame) -> Result<Place> {
     let position = wrapping_add_u64(p.before, at as u64);
     let n = stretch(rt, p.behind, position)?;
-    write(rt, frame_line(position, frame))?;
+    frame_line(position, frame).write(rt)?;
     Ok(Place {
         before: p.before,
         size: p.size,
@@ -160,7 +153,7 @@ fn told(rt: &HostRuntime, p: Place, at: usize, frame: Frame) -> Result<Place> {
 fn finished(rt: &HostRuntime, p: Place) -> Result<Place> {
     let all = wrapping_add_u64(p.before, p.size as u64);
     let n = stretch(rt, p.behind, all)?;
-    write(rt, last_line(p.frames, all, wrapping_add_u64(p.passed, n)))?;
+    last_line(p.frames, all, wrapping_add_u64(p.passed, n)).write(rt)?;
     Ok(Place {
         before: p.before,
         size: p.size,
@@ -214,7 +207,7 @@ fn tell(rt: &HostRuntime, bytes: &mut [u8]) -> Result<()> {
 }
 
 fn main(rt: HostRuntime) -> Result<()> {
-    write(&rt, heading())?;
+    heading().write(&rt)?;
     let mut bytes = [0u8; 16384];
     tell(&rt, &mut bytes)
 }

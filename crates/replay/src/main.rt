@@ -17,7 +17,7 @@ use cases::same;
 use ingest::cases::{input_pair, length, pair, slice};
 use ingest::records_of;
 use listing::{first_line, text_of};
-use print::{decimal, put, write};
+use print::Text;
 use std::io::Result;
 use std::num::wrapping_add_u64;
 
@@ -48,16 +48,16 @@ fn counted(t: Tally, theirs: [u8; 69]) -> Tally {
 }
 
 // A word and a number.
-fn part(out: &mut [u8], at: usize, name: &[u8], n: u64) -> usize {
-    let at = put(out, at, name);
-    decimal(out, at, n)
+fn part<const N: usize>(out: &mut Text<N>, name: &[u8], n: u64) {
+    out.put(name);
+    out.decimal(n);
 }
 
 fn differs(rt: &HostRuntime, t: Tally, case: usize) -> Result<Tally> {
-    let mut out = [0u8; 64];
-    let at = part(&mut out, 0, b"case ", case as u64);
-    let at = put(&mut out, at, b" differs\n");
-    write(rt, &out, at)?;
+    let mut out: Text<64> = Text::new();
+    part(&mut out, b"case ", case as u64);
+    out.put(b" differs\n");
+    out.write(rt)?;
     let verdicts = t.verdicts;
     Ok(Tally {
         verdicts: verdicts,
@@ -68,35 +68,27 @@ fn differs(rt: &HostRuntime, t: Tally, case: usize) -> Result<Tally> {
 
 // The answer of a slice.
 fn answered(rt: &HostRuntime, answer: Answer) -> Result<()> {
-    let mut out = [0u8; 128];
-    let n = first_line(&mut out, 0, answer);
-    write(rt, &out, n)
+    let mut out: Text<128> = Text::new();
+    first_line(&mut out, answer);
+    out.write(rt)
 }
 
 // The bits of the slots of a block.
-fn bits_of_block(out: &mut [u8], at: usize, bits: [u16; 7]) -> usize {
-    let mut end = at;
-    let mut slot = 0;
-    while slot < 7 {
-        end = part(out, end, b" ", bits[slot] as u64);
-        slot += 1;
+fn bits_of_block<const N: usize>(out: &mut Text<N>, bits: [u16; 7]) {
+    for n in bits {
+        part(out, b" ", n as u64);
     }
-    end
 }
 
 // The bits of the slots of a frame, block by block.
 fn slot_bits(rt: &HostRuntime, blocks: [SlotBits; 6]) -> Result<()> {
-    let mut out = [0u8; 320];
-    let mut at = put(&mut out, 0, b"bits");
-    let mut block = 0;
-    while block < 6 {
-        let of_block = blocks[block];
-        let bits = of_block.bits;
-        at = bits_of_block(&mut out, at, bits);
-        block += 1;
+    let mut out: Text<320> = Text::new();
+    out.put(b"bits");
+    for block in blocks {
+        bits_of_block(&mut out, block.bits);
     }
-    let at = put(&mut out, at, b"\n");
-    write(rt, &out, at)
+    out.put(b"\n");
+    out.write(rt)
 }
 
 // Number, place and count of a slice that is refused; the bits of the slots of one that is accepted.
@@ -125,22 +117,22 @@ fn one(rt: &HostRuntime, t: Tally, case: usize) -> Result<Tally> {
     differs(rt, t, case)
 }
 
-fn verdicts_line(out: &mut [u8], at: usize, verdicts: [u64; 4]) -> usize {
-    let at = part(out, at, b" accepted ", verdicts[0]);
-    let at = part(out, at, b" invalid ", verdicts[1]);
-    let at = part(out, at, b" unsupported ", verdicts[2]);
-    part(out, at, b" truncated ", verdicts[3])
+fn verdicts_line<const N: usize>(out: &mut Text<N>, verdicts: [u64; 4]) {
+    part(out, b" accepted ", verdicts[0]);
+    part(out, b" invalid ", verdicts[1]);
+    part(out, b" unsupported ", verdicts[2]);
+    part(out, b" truncated ", verdicts[3]);
 }
 
 fn print_tally(rt: &HostRuntime, t: Tally, cases: usize) -> Result<()> {
-    let mut out = [0u8; 256];
-    let at = part(&mut out, 0, b"cases ", cases as u64);
+    let mut out: Text<256> = Text::new();
+    part(&mut out, b"cases ", cases as u64);
     let verdicts = t.verdicts;
-    let at = verdicts_line(&mut out, at, verdicts);
-    let at = part(&mut out, at, b" records ", t.records);
-    let at = part(&mut out, at, b" differences ", t.differences);
-    let at = put(&mut out, at, b"\n");
-    write(rt, &out, at)
+    verdicts_line(&mut out, verdicts);
+    part(&mut out, b" records ", t.records);
+    part(&mut out, b" differences ", t.differences);
+    out.put(b"\n");
+    out.write(rt)
 }
 
 fn replay_all(rt: &HostRuntime) -> Result<()> {
@@ -162,9 +154,7 @@ fn replay_all(rt: &HostRuntime) -> Result<()> {
 fn read(rt: &HostRuntime, listed: usize, src: &[u8]) -> Result<()> {
     let r = records_of(src);
     if listed == 1 {
-        let text = text_of(r);
-        let bytes = text.bytes;
-        return write(rt, &bytes, text.size);
+        return text_of(r).write(rt);
     }
     answered(rt, r.answer)
 }

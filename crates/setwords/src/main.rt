@@ -10,7 +10,7 @@ use answer::{Answer, Verdict};
 use ingest::records_of;
 use listing::Records;
 use mastering::set_words;
-use print::{decimal, number, put};
+use print::Text;
 use std::env::{Env, FillError};
 use std::io::Result;
 use word_items::{NO_NAME, NO_NUMBER, Place, last, name_of, number_of, place_of};
@@ -212,205 +212,85 @@ fn items_of(rt: &HostRuntime, n: usize, r: Records, count: usize) -> Items
     }
 }
 
-fn tell(rt: &HostRuntime, text: &[u8], size: usize) -> Result<()>
-    requires { size ≤ length text.now }
-{
-    rt.stderr().write_all(&text[..size])
+fn tell<const N: usize>(rt: &HostRuntime, text: &Text<N>) -> Result<()> {
+    rt.stderr().write_all(text.as_bytes())
 }
 
-fn why_item(fault: u8, out: &mut [u8], at: usize) -> usize {
-    if fault == 1 {
-        return put(
-            out,
-            at,
-            b"is no WORD=VALUE, WORD[BLOCK]=VALUE or PLACE=VALUE\n",
-        );
+fn why_item(fault: u8) -> &'static [u8] {
+    match fault {
+        1 => b"is no WORD=VALUE, WORD[BLOCK]=VALUE or PLACE=VALUE\n",
+        2 => b"names a word that the frame does not have\n",
+        _ => b"names a word that the frame has more than once: say its block\n",
     }
-    if fault == 2 {
-        return put(out, at, b"names a word that the frame does not have\n");
-    }
-    put(
-        out,
-        at,
-        b"names a word that the frame has more than once: say its block\n",
-    )
 }
 
 // Which item is faulty, and why.
 fn tell_item(rt: &HostRuntime, fault: u8, ordinal: usize) -> Result<()> {
-    let mut out = [0u8; 128];
-    let at = put(&mut out, 0, b"item ");
-    let at = number(&mut out, at, ordinal as u64, b' ');
-    let at = why_item(fault, &mut out, at);
-    tell(rt, &out, up_to(at, 128))
-}
-
-// Refusals of the header.
-fn why_header(refusal: u8, out: &mut [u8], at: usize) -> usize {
-    if refusal == 1 {
-        return put(out, at, b": fewer than 6 bytes\n");
-    }
-    if refusal == 2 {
-        return put(out, at, b": no sync word 0B77\n");
-    }
-    if refusal == 3 {
-        return put(out, at, b": strmtyp is 3, which is reserved\n");
-    }
-    if refusal == 4 {
-        return put(out, at, b": fewer bytes than the frame announces\n");
-    }
-    if refusal == 5 {
-        return put(
-            out,
-            at,
-            b": fscod is 3, reduced sample rates, which are not read\n",
-        );
-    }
-    if refusal == 6 {
-        return put(out, at, b": bsid is not 11 to 16: no E-AC-3 frame\n");
-    }
-    if refusal == 7 {
-        return put(out, at, b": snroffststr is 3, which is reserved\n");
-    }
-    put(out, at, b": an element passes the frame's end\n")
-}
-
-// Refusals of the audio blocks, by single elements.
-fn why_audio(refusal: u8, out: &mut [u8], at: usize) -> usize {
-    if refusal == 9 {
-        return put(out, at, b": enhanced coupling, which is not read\n");
-    }
-    if refusal == 10 {
-        return put(out, at, b": chbwcod is above 60\n");
-    }
-    if refusal == 11 {
-        return put(out, at, b": a grouped exponent is above 124\n");
-    }
-    if refusal == 12 {
-        return put(out, at, b": a delta code is 3, which is reserved\n");
-    }
-    if refusal == 13 {
-        return put(out, at, b": a composite GAQ gain is above 26\n");
-    }
-    if refusal == 20 {
-        return put(
-            out,
-            at,
-            b": the mixing data have more bits than mixdeflen says\n",
-        );
-    }
-    put(
-        out,
-        at,
-        b": spectral extension begins at or after its end\n",
-    )
-}
-
-// Refusals of the audio blocks, by what was sent before.
-fn why_state(refusal: u8, out: &mut [u8], at: usize) -> usize {
-    if refusal == 22 {
-        return put(out, at, b": coupling has less than one sub-band\n");
-    }
-    if refusal == 23 {
-        return put(out, at, b": a bandwidth was never sent\n");
-    }
-    if refusal == 24 {
-        return put(
-            out,
-            at,
-            b": coupling exponents are reused that are not held\n",
-        );
-    }
-    if refusal == 25 {
-        return put(
-            out,
-            at,
-            b": exponents of a channel are reused that are not held\n",
-        );
-    }
-    if refusal == 26 {
-        return put(out, at, b": LFE exponents are reused that are not held\n");
-    }
-    if refusal == 27 {
-        return put(out, at, b": an exponent leaves 0 to 24\n");
-    }
-    if refusal == 28 {
-        return put(out, at, b": a delta code 0 in block 0\n");
-    }
-    put(out, at, b": bit allocation parameters were never sent\n")
-}
-
-// Refusals of the tail and the rooms.
-fn why_tail(refusal: u8, out: &mut [u8], at: usize) -> usize {
-    if refusal == 30 {
-        return put(out, at, b": fewer than 18 bits are left after the audio\n");
-    }
-    if refusal == 31 {
-        return put(
-            out,
-            at,
-            b": auxdatae is 1 and fewer than 32 bits are left after the audio\n",
-        );
-    }
-    if refusal == 32 {
-        return put(out, at, b": auxdatal is more than auxbits\n");
-    }
-    put(out, at, b": the frame has more than 2,048 records\n")
-}
-
-// Refusals of the items.
-fn why_items(refusal: u8, out: &mut [u8], at: usize) -> usize {
-    if refusal == 41 {
-        return put(out, at, b": a place is beyond the list\n");
-    }
-    if refusal == 42 {
-        return put(
-            out,
-            at,
-            b": a record is not dialnorm, compr, dynrng or one of those of a second programme\n",
-        );
-    }
-    if refusal == 43 {
-        return put(out, at, b": a value has more bits than its word\n");
-    }
-    if refusal == 47 {
-        return put(out, at, b": a place is listed twice\n");
-    }
-    put(out, at, b": more than 16 items\n")
+    let mut out: Text<128> = Text::new();
+    out.put(b"item ");
+    out.number(ordinal as u64, b' ');
+    out.put(why_item(fault));
+    tell(rt, &out)
 }
 
 // What a refusal means.
-fn why(refusal: u8, out: &mut [u8], at: usize) -> usize {
-    if refusal < 9 {
-        return why_header(refusal, out, at);
+fn why(refusal: u8) -> &'static [u8] {
+    match refusal {
+        // of the header
+        1 => b": fewer than 6 bytes\n",
+        2 => b": no sync word 0B77\n",
+        3 => b": strmtyp is 3, which is reserved\n",
+        4 => b": fewer bytes than the frame announces\n",
+        5 => b": fscod is 3, reduced sample rates, which are not read\n",
+        6 => b": bsid is not 11 to 16: no E-AC-3 frame\n",
+        7 => b": snroffststr is 3, which is reserved\n",
+        0 | 8 => b": an element passes the frame's end\n",
+        // of the audio blocks, by single elements
+        9 => b": enhanced coupling, which is not read\n",
+        10 => b": chbwcod is above 60\n",
+        11 => b": a grouped exponent is above 124\n",
+        12 => b": a delta code is 3, which is reserved\n",
+        13 => b": a composite GAQ gain is above 26\n",
+        20 => b": the mixing data have more bits than mixdeflen says\n",
+        14..=19 | 21 => b": spectral extension begins at or after its end\n",
+        // of the audio blocks, by what was sent before
+        22 => b": coupling has less than one sub-band\n",
+        23 => b": a bandwidth was never sent\n",
+        24 => b": coupling exponents are reused that are not held\n",
+        25 => b": exponents of a channel are reused that are not held\n",
+        26 => b": LFE exponents are reused that are not held\n",
+        27 => b": an exponent leaves 0 to 24\n",
+        28 => b": a delta code 0 in block 0\n",
+        29 => b": bit allocation parameters were never sent\n",
+        // of the tail and the rooms
+        30 => b": fewer than 18 bits are left after the audio\n",
+        31 => b": auxdatae is 1 and fewer than 32 bits are left after the audio\n",
+        32 => b": auxdatal is more than auxbits\n",
+        33 => b": the frame has more than 2,048 records\n",
+        // of the items
+        41 => b": a place is beyond the list\n",
+        42 => b": a record is not dialnorm, compr, dynrng or one of those of a second programme\n",
+        43 => b": a value has more bits than its word\n",
+        47 => b": a place is listed twice\n",
+        _ => b": more than 16 items\n",
     }
-    if refusal < 22 {
-        return why_audio(refusal, out, at);
-    }
-    if refusal < 30 {
-        return why_state(refusal, out, at);
-    }
-    if refusal < 34 {
-        return why_tail(refusal, out, at);
-    }
-    why_items(refusal, out, at)
 }
 
 // A refusal: number, bit place, and what it means.
 fn tell_refusal(rt: &HostRuntime, refusal: u8, place: u64) -> Result<()> {
-    let mut out = [0u8; 128];
-    let at = put(&mut out, 0, b"refused ");
-    let at = number(&mut out, at, refusal as u64, b' ');
-    let at = put(&mut out, at, b"at bit ");
-    let at = decimal(&mut out, at, place);
-    let at = why(refusal, &mut out, at);
-    tell(rt, &out, up_to(at, 128))
+    let mut out: Text<128> = Text::new();
+    out.put(b"refused ");
+    out.number(refusal as u64, b' ');
+    out.put(b"at bit ");
+    out.decimal(place);
+    out.put(why(refusal));
+    tell(rt, &out)
 }
 
 fn pass_some(rt: &HostRuntime) -> Result<bool> {
     let mut bytes = [0u8; 4096];
     let n = print::read_full(&mut rt.stdin(), &mut bytes)?;
-    print::write(rt, &bytes, n)?;
+    rt.write_all(&bytes[..n])?;
     Ok(n == 4096)
 }
 
@@ -431,7 +311,7 @@ fn answered(rt: &HostRuntime, answer: Answer, bytes: &[u8]) -> Result<()> {
     let verdict = answer.verdict;
     match verdict {
         Verdict::Accepted => {
-            print::write(rt, bytes, bytes.len())?;
+            rt.write_all(bytes)?;
             pass_rest(rt)
         }
         Verdict::Refused(refusal, place, _) => tell_refusal(rt, refusal, place.0 as u64),

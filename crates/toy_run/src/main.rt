@@ -2,9 +2,7 @@
 // the records of each: first bit, width, name, block, index, value.
 #![tactic(auto)]
 
-ghost use Rattle.std.specs.Prelude.{◌<◌, ◌≤◌};
-
-use print::{number, put, signed, signed_byte};
+use print::Text;
 use std::io::Result;
 use syntax::Cursor;
 
@@ -17,31 +15,32 @@ fn line(
     index: i16,
     value: u32,
 ) -> Result<()> {
-    let mut out = [0u8; 64];
-    let at = number(&mut out, 0, first as u64, b' ');
-    let at = number(&mut out, at, width as u64, b' ');
-    let at = number(&mut out, at, name as u64, b' ');
-    let at = signed_byte(&mut out, at, block, b' ');
-    let at = signed(&mut out, at, index, b' ');
-    let at = number(&mut out, at, value as u64, b'\n');
-    print::write(rt, &out, at)
+    let mut out: Text<64> = Text::new();
+    out.number(first as u64, b' ');
+    out.number(width as u64, b' ');
+    out.number(name as u64, b' ');
+    out.signed(block as i16, b' ');
+    out.signed(index, b' ');
+    out.number(value as u64, b'\n');
+    out.write(rt)
 }
 
 // Whether the frame was accepted, or the number of the refusal.
-fn verdict(out: &mut [u8], c: Cursor) -> usize {
+fn verdict<const N: usize>(out: &mut Text<N>, c: Cursor) {
     if c.stopped {
-        let at = put(out, 0, b"refused ");
-        return number(out, at, c.number as u64, b' ');
+        out.put(b"refused ");
+        out.number(c.number as u64, b' ');
+    } else {
+        out.put(b"accepted ");
     }
-    put(out, 0, b"accepted ")
 }
 
 fn answer(rt: &HostRuntime, c: Cursor) -> Result<()> {
-    let mut out = [0u8; 64];
-    let at = verdict(&mut out, c);
-    let at = number(&mut out, at, c.at.0 as u64, b' ');
-    let at = number(&mut out, at, c.count as u64, b'\n');
-    print::write(rt, &out, at)
+    let mut out: Text<64> = Text::new();
+    verdict(&mut out, c);
+    out.number(c.at.0 as u64, b' ');
+    out.number(c.count as u64, b'\n');
+    out.write(rt)
 }
 
 fn lines(
@@ -54,14 +53,10 @@ fn lines(
     indexes: [i16; 128],
     values: [u32; 128],
 ) -> Result<()> {
-    let mut i = 0;
-    while i < 128 {
-        if i < count {
-            line(
-                rt, firsts[i], widths[i], names[i], blocks[i], indexes[i], values[i],
-            )?;
-        }
-        i += 1;
+    for i in 0..count.min(128) {
+        line(
+            rt, firsts[i], widths[i], names[i], blocks[i], indexes[i], values[i],
+        )?;
     }
     Ok(())
 }
@@ -86,24 +81,14 @@ fn run(rt: &HostRuntime, frame: &[u8]) -> Result<()> {
     lines(rt, c.count, firsts, widths, names, blocks, indexes, values)
 }
 
-fn end_of(at: usize, n: usize, len: u8) -> usize
-    requires { at < n }
-    ensures { (at < result) × (result ≤ n) }
-{
-    let step = 1 + len as usize;
-    if step < n - at { at + step } else { n }
-}
-
 fn main(rt: HostRuntime) -> Result<()> {
     let mut input = [0u8; 4096];
     let n = print::read_full(&mut rt.stdin(), &mut input)?;
-    let data: &[u8] = &input[..n];
-    let mut at: usize = 0;
-    while at < data.len() {
-        let next = at + 1;
-        let end = end_of(at, data.len(), data[at]);
-        run(&rt, &data[next..end])?;
-        at = end;
+    let mut rest = &input[..n];
+    while let Some((size, frames)) = rest.split_first() {
+        let end = usize::from(*size).min(frames.len());
+        run(&rt, &frames[..end])?;
+        rest = &frames[end..];
     }
     Ok(())
 }

@@ -1,9 +1,0 @@
--- The records before i are printed, as far as there are any.
-use Prim.Native.Nat.{◌≤◌, ◌-◌}
-use Rattle.toy_run.proofs.lines.Given as goal
-
-abbrev pub invariant-loop-i : goal.invariant-loop-i
-invariant-loop-i l = l.i ≤ 128
-
-abbrev pub decreases-loop-i : goal.decreases-loop-i
-decreases-loop-i l = 128 - l.i
