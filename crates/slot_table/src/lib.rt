@@ -91,7 +91,12 @@ fn table<const N: usize>(out: &mut Text<N>, f: &Frame)
     out.put(b"    sum\n");
     for block in 0..f.numblks.min(6) as usize {
         out.right(block as u64, 5);
-        line(out, None, &slot_sums(&f.slot_bits[block..block + 1]), nfchans);
+        line(
+            out,
+            None,
+            &slot_sums(&f.slot_bits[block..block + 1]),
+            nfchans,
+        );
     }
     let all = slot_sums(&f.slot_bits);
     out.put(b"  sum");
