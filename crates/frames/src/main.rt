@@ -5,13 +5,13 @@
 // has: no frame is longer, and what follows a frame is not looked at, so each position gets the answer that it has in the whole.
 #![tactic(auto)]
 
-ghost use Rattle.std.specs.Prelude.{◌≡◌, ◌-◌, ◌≤◌, IfErr, IfOk, drop, length, take};
+ghost use Rattle.std.specs.Prelude.{◌≡◌, ◌-◌, IfErr, IfOk, drop, take};
 ghost use Rattle.ingest.specs.Ingest.{empty};
 ghost use Rattle.search.specs.Find.{found_in};
 ghost use Rattle.frames.specs.Held.{allowance_of, next_in, rest_of, Shifted};
 
 use answer::{Frame, Verdict};
-use frame_line::{Text, frame_line, heading, last_line, stretch_line};
+use frame_line::{frame_line, heading, last_line, stretch_line};
 use search::{Found, find};
 use std::io::Result;
 
@@ -93,18 +93,11 @@ fn refill(rt: &HostRuntime, bytes: &mut [u8], first: usize, size: usize) -> Resu
     Ok(n + more)
 }
 
-fn write(rt: &HostRuntime, text: Text) -> Result<()>
-    requires { text.size ≤ length text.bytes }
-{
-    let bytes = text.bytes;
-    print::write(rt, &bytes, text.size)
-}
-
 // Tells of the bytes between two positions, if there are any, and says how many they are.
 fn stretch(rt: &HostRuntime, behind: u64, position: u64) -> Result<u64> {
     let n = position.wrapping_sub(behind);
     if n != 0 {
-        write(rt, stretch_line(behind, n))?;
+        stretch_line(behind, n).write(rt)?;
     }
     Ok(n)
 }
@@ -114,7 +107,7 @@ impl Place {
     fn told(self, rt: &HostRuntime, at: usize, frame: Frame) -> Result<Place> {
         let position = self.before.wrapping_add(at as u64);
         let n = stretch(rt, self.behind, position)?;
-        write(rt, frame_line(position, frame))?;
+        frame_line(position, frame).write(rt)?;
         let bytes = frame.bytes.0;
         Ok(Place {
             at: at.wrapping_add(usize::from(bytes)),
@@ -141,7 +134,7 @@ impl Place {
     fn finish(self, rt: &HostRuntime) -> Result<()> {
         let all = self.before.wrapping_add(self.size as u64);
         let n = stretch(rt, self.behind, all)?;
-        write(rt, last_line(self.frames, all, self.passed.wrapping_add(n)))
+        last_line(self.frames, all, self.passed.wrapping_add(n)).write(rt)
     }
 
     // One frame more; or more of the capture, where none is found in what is held; or the end, where there is no next place.
@@ -184,7 +177,7 @@ fn tell(rt: &HostRuntime, bytes: &mut [u8]) -> Result<()> {
 }
 
 fn main(rt: HostRuntime) -> Result<()> {
-    write(&rt, heading())?;
+    heading().write(&rt)?;
     let mut bytes = [0u8; 16384];
     tell(&rt, &mut bytes)
 }

@@ -8,7 +8,7 @@ ghost use Rattle.names.specs.Spelling.{rows};
 use bits::{BitPlace, ByteCount};
 use lent::Label;
 use names::numbers;
-use print::number;
+use print::Text;
 use std::io::Result;
 use syntax::Cursor;
 
@@ -96,12 +96,10 @@ fn header(
     requires { limit.0 ≤ 8 * length src.now }
 {
     let mut cur = syntax::going(BitPlace(0), 0);
-    let mut i = 0;
-    while i < 9 {
+    for i in 0..9 {
         cur = next(
             src, names, blocks, indexes, firsts, widths, values, cur, limit, i,
         );
-        i += 1;
     }
     cur.count
 }
@@ -126,12 +124,12 @@ fn line(
 ) -> Result<()>
     requires { table.now ≡ rows }
 {
-    let mut out = [0u8; 64];
-    let at = number(&mut out, 0, first as u64, b' ');
-    let at = number(&mut out, at, wide as u64, b' ');
-    let at = print::name(table, &mut out, at, name, b' ');
-    let at = number(&mut out, at, value as u64, b'\n');
-    print::write(rt, &out, at)
+    let mut out: Text<64> = Text::new();
+    out.number(first as u64, b' ');
+    out.number(wide as u64, b' ');
+    out.name(table, name, b' ');
+    out.number(value as u64, b'\n');
+    out.write(rt)
 }
 
 fn lines(
@@ -145,12 +143,8 @@ fn lines(
 ) -> Result<()>
     requires { table.now ≡ rows }
 {
-    let mut i = 0;
-    while i < 9 {
-        if i < count {
-            line(rt, table, firsts[i], widths[i], names[i], values[i])?;
-        }
-        i += 1;
+    for i in 0..count.min(9) {
+        line(rt, table, firsts[i], widths[i], names[i], values[i])?;
     }
     Ok(())
 }

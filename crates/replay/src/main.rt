@@ -17,7 +17,7 @@ use cases::same;
 use ingest::cases::{input_pair, input_slice, pair};
 use ingest::records_of;
 use listing::{first_line, text_of};
-use print::{decimal, put, write};
+use print::Text;
 use std::io::Result;
 
 fn answer(rt: &HostRuntime) -> Result<[u8; 69]> {
@@ -27,16 +27,16 @@ fn answer(rt: &HostRuntime) -> Result<[u8; 69]> {
 }
 
 // A word and a number.
-fn part(out: &mut [u8], at: usize, name: &[u8], n: u64) -> usize {
-    let at = put(out, at, name);
-    decimal(out, at, n)
+fn part<const N: usize>(out: &mut Text<N>, name: &[u8], n: u64) {
+    out.put(name);
+    out.decimal(n);
 }
 
-fn verdicts_line(out: &mut [u8], at: usize, verdicts: &[u64; 4]) -> usize {
-    let at = part(out, at, b" accepted ", verdicts[0]);
-    let at = part(out, at, b" invalid ", verdicts[1]);
-    let at = part(out, at, b" unsupported ", verdicts[2]);
-    part(out, at, b" truncated ", verdicts[3])
+fn verdicts_line<const N: usize>(out: &mut Text<N>, verdicts: &[u64; 4]) {
+    part(out, b" accepted ", verdicts[0]);
+    part(out, b" invalid ", verdicts[1]);
+    part(out, b" unsupported ", verdicts[2]);
+    part(out, b" truncated ", verdicts[3]);
 }
 
 // What the last line of the cases says: how many there are of each verdict, how many records they have, and how many differ.
@@ -57,50 +57,48 @@ impl Tally {
     }
 
     fn differs(&mut self, rt: &HostRuntime, case: usize) -> Result<()> {
-        let mut out = [0u8; 64];
-        let at = part(&mut out, 0, b"case ", case as u64);
-        let at = put(&mut out, at, b" differs\n");
-        write(rt, &out, at)?;
+        let mut out: Text<64> = Text::new();
+        part(&mut out, b"case ", case as u64);
+        out.put(b" differs\n");
+        out.write(rt)?;
         self.differences = self.differences.wrapping_add(1);
         Ok(())
     }
 
     fn print(&self, rt: &HostRuntime, cases: usize) -> Result<()> {
-        let mut out = [0u8; 256];
-        let at = part(&mut out, 0, b"cases ", cases as u64);
-        let at = verdicts_line(&mut out, at, &self.verdicts);
-        let at = part(&mut out, at, b" records ", self.records);
-        let at = part(&mut out, at, b" differences ", self.differences);
-        let at = put(&mut out, at, b"\n");
-        write(rt, &out, at)
+        let mut out: Text<256> = Text::new();
+        part(&mut out, b"cases ", cases as u64);
+        verdicts_line(&mut out, &self.verdicts);
+        part(&mut out, b" records ", self.records);
+        part(&mut out, b" differences ", self.differences);
+        out.put(b"\n");
+        out.write(rt)
     }
 }
 
 // The answer of a slice.
 fn answered(rt: &HostRuntime, answer: Answer) -> Result<()> {
-    let mut out = [0u8; 128];
-    let n = first_line(&mut out, 0, answer);
-    write(rt, &out, n)
+    let mut out: Text<128> = Text::new();
+    first_line(&mut out, answer);
+    out.write(rt)
 }
 
 // The bits of the slots of a block.
-fn bits_of_block(out: &mut [u8], at: usize, bits: [u16; 7]) -> usize {
-    let mut end = at;
+fn bits_of_block<const N: usize>(out: &mut Text<N>, bits: [u16; 7]) {
     for n in bits {
-        end = part(out, end, b" ", u64::from(n));
+        part(out, b" ", u64::from(n));
     }
-    end
 }
 
 // The bits of the slots of a frame, block by block.
 fn slot_bits(rt: &HostRuntime, blocks: [SlotBits; 6]) -> Result<()> {
-    let mut out = [0u8; 320];
-    let mut at = put(&mut out, 0, b"bits");
+    let mut out: Text<320> = Text::new();
+    out.put(b"bits");
     for block in blocks {
-        at = bits_of_block(&mut out, at, block.bits);
+        bits_of_block(&mut out, block.bits);
     }
-    let at = put(&mut out, at, b"\n");
-    write(rt, &out, at)
+    out.put(b"\n");
+    out.write(rt)
 }
 
 // Number, place and count of a slice that is refused; the bits of the slots of one that is accepted.
@@ -141,9 +139,7 @@ fn replay_all(rt: &HostRuntime) -> Result<()> {
 fn read(rt: &HostRuntime, listed: usize, src: &[u8]) -> Result<()> {
     let r = records_of(src);
     if listed == 1 {
-        let text = text_of(r);
-        let bytes = text.bytes;
-        return write(rt, &bytes, text.size);
+        return text_of(r).write(rt);
     }
     answered(rt, r.answer)
 }

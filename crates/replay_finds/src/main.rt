@@ -11,7 +11,7 @@ ghost use Rattle.std.specs.Prelude.{◌≤◌, IfOk};
 use answer::Answer;
 use ingest::cases::{Slice, input_pair, input_slice};
 use listing::{Records, first_line};
-use print::{number, signed, signed_byte};
+use print::Text;
 use search::{Found, find};
 use std::io::Result;
 
@@ -75,14 +75,14 @@ fn line(
     index: i16,
     value: u32,
 ) -> Result<()> {
-    let mut out = [0u8; 64];
-    let at = number(&mut out, 0, first as u64, b' ');
-    let at = number(&mut out, at, width as u64, b' ');
-    let at = number(&mut out, at, name as u64, b' ');
-    let at = signed_byte(&mut out, at, block, b' ');
-    let at = signed(&mut out, at, index, b' ');
-    let at = number(&mut out, at, value as u64, b'\n');
-    print::write(rt, &out, at)
+    let mut out: Text<64> = Text::new();
+    out.number(first as u64, b' ');
+    out.number(width as u64, b' ');
+    out.number(name as u64, b' ');
+    out.signed(block as i16, b' ');
+    out.signed(index, b' ');
+    out.number(value as u64, b'\n');
+    out.write(rt)
 }
 
 fn lines(rt: &HostRuntime, r: Records, listed: usize) -> Result<()> {
@@ -101,11 +101,11 @@ fn lines(rt: &HostRuntime, r: Records, listed: usize) -> Result<()> {
 }
 
 fn tell(rt: &HostRuntime, answer: Answer, position: usize, tried: usize) -> Result<()> {
-    let mut out = [0u8; 256];
-    let at = first_line(&mut out, 0, answer);
-    let at = number(&mut out, at, position as u64, b' ');
-    let at = number(&mut out, at, tried as u64, b'\n');
-    print::write(rt, &out, at)
+    let mut out: Text<256> = Text::new();
+    first_line(&mut out, answer);
+    out.number(position as u64, b' ');
+    out.number(tried as u64, b'\n');
+    out.write(rt)
 }
 
 impl Case {

@@ -6,7 +6,7 @@
 use answer::Answer;
 use ingest::cases::{input_pair, input_slice};
 use listing::{Records, first_line, text_of};
-use print::write;
+use print::Text;
 use std::io::Result;
 
 // A slice read at the full entry.
@@ -59,20 +59,14 @@ fn settop(src: &[u8], room: usize) -> Records {
 }
 
 fn answered(rt: &HostRuntime, answer: Answer) -> Result<()> {
-    let mut out = [0u8; 128];
-    let n = first_line(&mut out, 0, answer);
-    write(rt, &out, n)
-}
-
-fn listed(rt: &HostRuntime, r: Records) -> Result<()> {
-    let text = text_of(r);
-    let bytes = text.bytes;
-    write(rt, &bytes, text.size)
+    let mut out: Text<128> = Text::new();
+    first_line(&mut out, answer);
+    out.write(rt)
 }
 
 fn case(rt: &HostRuntime, room: usize, src: &[u8]) -> Result<()> {
     answered(rt, full(src, room))?;
-    listed(rt, settop(src, room))
+    text_of(settop(src, room)).write(rt)
 }
 
 fn one(rt: &HostRuntime) -> Result<()> {

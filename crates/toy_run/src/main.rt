@@ -2,7 +2,7 @@
 // the records of each: first bit, width, name, block, index, value.
 #![tactic(auto)]
 
-use print::{number, put, signed, signed_byte};
+use print::Text;
 use std::io::Result;
 use syntax::Cursor;
 
@@ -15,31 +15,32 @@ fn line(
     index: i16,
     value: u32,
 ) -> Result<()> {
-    let mut out = [0u8; 64];
-    let at = number(&mut out, 0, first as u64, b' ');
-    let at = number(&mut out, at, width as u64, b' ');
-    let at = number(&mut out, at, name as u64, b' ');
-    let at = signed_byte(&mut out, at, block, b' ');
-    let at = signed(&mut out, at, index, b' ');
-    let at = number(&mut out, at, value as u64, b'\n');
-    print::write(rt, &out, at)
+    let mut out: Text<64> = Text::new();
+    out.number(first as u64, b' ');
+    out.number(width as u64, b' ');
+    out.number(name as u64, b' ');
+    out.signed(block as i16, b' ');
+    out.signed(index, b' ');
+    out.number(value as u64, b'\n');
+    out.write(rt)
 }
 
 // Whether the frame was accepted, or the number of the refusal.
-fn verdict(out: &mut [u8], c: Cursor) -> usize {
+fn verdict<const N: usize>(out: &mut Text<N>, c: Cursor) {
     if c.stopped {
-        let at = put(out, 0, b"refused ");
-        return number(out, at, c.number as u64, b' ');
+        out.put(b"refused ");
+        out.number(c.number as u64, b' ');
+    } else {
+        out.put(b"accepted ");
     }
-    put(out, 0, b"accepted ")
 }
 
 fn answer(rt: &HostRuntime, c: Cursor) -> Result<()> {
-    let mut out = [0u8; 64];
-    let at = verdict(&mut out, c);
-    let at = number(&mut out, at, c.at.0 as u64, b' ');
-    let at = number(&mut out, at, c.count as u64, b'\n');
-    print::write(rt, &out, at)
+    let mut out: Text<64> = Text::new();
+    verdict(&mut out, c);
+    out.number(c.at.0 as u64, b' ');
+    out.number(c.count as u64, b'\n');
+    out.write(rt)
 }
 
 fn lines(

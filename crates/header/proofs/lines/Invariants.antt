@@ -1,9 +1,0 @@
--- The elements before i are printed, as far as there are any.
-use Prim.Native.Nat.{◌≤◌, ◌-◌}
-use Rattle.header.proofs.lines.Given as goal
-
-abbrev pub invariant-loop-i : goal.invariant-loop-i
-invariant-loop-i l = l.i ≤ 9
-
-abbrev pub decreases-loop-i : goal.decreases-loop-i
-decreases-loop-i l = 9 - l.i
