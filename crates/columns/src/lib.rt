@@ -2,34 +2,35 @@
 #![tactic(auto)]
 
 ghost use Rattle.std.specs.Prelude.{◌≡◌, ◌≤◌};
-ghost use Rattle.print.specs.Text.{Added};
+ghost use Rattle.print.specs.Text.{Adds};
 ghost use Rattle.columns.specs.Columns.{names_of, heading_of, channels_of};
 
-use print::put;
+use print::Text;
 
 // The full bandwidth channels by acmod (A/52 table 5.8).
-fn channel_names(out: &mut [u8], at: usize, acmod: u32) -> usize
-    ensures { Added out.old at (names_of acmod) out.new result }
+#[tactic(auto, unfolding(crate::specs::Columns::names_of, crate::specs::Columns::modes, names::specs::Spelling::bytes))]
+fn channel_names(acmod: u32) -> &'static [u8]
+    ensures { result.now ≡ names_of acmod }
 {
     match acmod {
-        0 => put(out, at, b"    Ch1    Ch2"),
-        1 => put(out, at, b"      C"),
-        2 => put(out, at, b"      L      R"),
-        3 => put(out, at, b"      L      C      R"),
-        4 => put(out, at, b"      L      R      S"),
-        5 => put(out, at, b"      L      C      R      S"),
-        6 => put(out, at, b"      L      R     Ls     Rs"),
-        _ => put(out, at, b"      L      C      R     Ls     Rs"),
+        0 => b"    Ch1    Ch2",
+        1 => b"      C",
+        2 => b"      L      R",
+        3 => b"      L      C      R",
+        4 => b"      L      R      S",
+        5 => b"      L      C      R      S",
+        6 => b"      L      R     Ls     Rs",
+        _ => b"      L      C      R     Ls     Rs",
     }
 }
 
 // How a table begins.
-pub fn heading(out: &mut [u8], acmod: u32) -> usize
-    ensures { Added out.old 0 (heading_of acmod) out.new result }
+pub fn heading<const N: usize>(out: &mut Text<N>, acmod: u32)
+    ensures { Adds N out.old (heading_of acmod) out.new }
 {
-    let at = put(out, 0, b"block    CPL");
-    let at = channel_names(out, at, acmod);
-    put(out, at, b"    LFE")
+    out.put(b"block    CPL");
+    out.put(channel_names(acmod));
+    out.put(b"    LFE");
 }
 
 // How many full bandwidth channels there are, by acmod.

@@ -1,19 +1,13 @@
 -- How long the lines can be. Assumes nothing.
-use mathlib.Core.Path.{◌≡◌, sym}
 use mathlib.Core.Bool.{Bool, true, false}
 use mathlib.Core.List.{◌++◌}
 use Prim.Native.Nat.{ℕ, zero, suc, ◌≤◌}
 use native.Mathlib.Omega.{arith}
-use lib.ListN.{length, length-append, length-replicate, get_or-eq_default}
+use lib.ListN.{length, length-append, length-replicate}
 use Rattle.names.specs.Spelling.{bytes}
 use Rattle.print.proofs.Decimals.{few}
 use Rattle.answer.specs.declared.Frame.{Frame}
 use Rattle.frame_line.specs.Lines.{modes, mode_of, lfe_of, rate_of, what_of, channels_of, sizes_of, line_of, stretch_of, sums_of, heading_of}
-
--- past the last that is named
-pub last-mode : (acmod : ℕ) → 7 ≤ acmod → bytes "   3/2" ≡ mode_of acmod
-unfolding mode_of modes
-last-mode acmod h = sym (get_or-eq_default modes (bytes "   3/2") {n = acmod} h)
 
 mode-short : (acmod : ℕ) → length (mode_of acmod) ≤ 6
 unfolding mode_of modes bytes

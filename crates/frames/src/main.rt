@@ -5,16 +5,15 @@
 // has: no frame is longer, and what follows a frame is not looked at, so each position gets the answer that it has in the whole.
 #![tactic(auto)]
 
-ghost use Rattle.std.specs.Prelude.{◌≡◌, ◌-◌, ◌≤◌, IfErr, IfOk, drop, min, length, take};
+ghost use Rattle.std.specs.Prelude.{◌≡◌, ◌-◌, IfErr, IfOk, drop, take};
 ghost use Rattle.ingest.specs.Ingest.{empty};
 ghost use Rattle.search.specs.Find.{found_in};
 ghost use Rattle.frames.specs.Held.{allowance_of, next_in, rest_of, Shifted};
 
 use answer::{Frame, Verdict};
-use frame_line::{Text, frame_line, heading, last_line, stretch_line};
+use frame_line::{frame_line, heading, last_line, stretch_line};
 use search::{Found, find};
 use std::io::Result;
-use std::num::{wrapping_add_u64, wrapping_add_usize, wrapping_sub_u64};
 
 // The longest frame.
 const LONGEST: usize = 4096;
@@ -30,19 +29,6 @@ struct Place {
     behind: u64,
     frames: u64,
     passed: u64,
-    done: bool,
-}
-
-fn least(a: usize, b: usize) -> usize
-    ensures { result ≡ min a b }
-{
-    if a < b { a } else { b }
-}
-
-fn less(a: usize, b: usize) -> usize
-    ensures { result ≡ a - b }
-{
-    if b < a { a - b } else { 0 }
 }
 
 // How many positions may be decided.
@@ -50,9 +36,10 @@ fn allowance(size: usize, at: usize, ended: bool) -> usize
     ensures { result ≡ allowance_of size at ended }
 {
     if ended {
-        return usize::MAX;
+        usize::MAX
+    } else {
+        size.saturating_sub(LONGEST - 1).saturating_sub(at)
     }
-    less(less(size, LONGEST - 1), at)
 }
 
 // The next frame, with room for the records of every frame: 33 does not come.
@@ -82,7 +69,7 @@ fn next(held: &[u8], at: usize, most: usize) -> Found
 fn next_of(bytes: &[u8], size: usize, at: usize, ended: bool) -> Found
     ensures { result ≡ next_in bytes.now size at ended }
 {
-    let n = least(size, bytes.len());
+    let n = size.min(bytes.len());
     next(&bytes[..n], at, allowance(n, at, ended))
 }
 
@@ -90,13 +77,10 @@ fn next_of(bytes: &[u8], size: usize, at: usize, ended: bool) -> Found
 fn shift(bytes: &mut [u8], first: usize, size: usize) -> usize
     ensures { Shifted bytes.old first size bytes.new result }
 {
-    let n = less(least(size, bytes.len()), first);
-    let mut i = 0;
-    while i < n {
-        bytes[i] = bytes[first + i];
-        i += 1;
-    }
-    n
+    let end = size.min(bytes.len());
+    let from = first.min(end);
+    bytes.copy_within(from..end, 0);
+    end - from
 }
 
 // Holds the bytes from one on, and as many more of the capture as there is room for.
@@ -109,88 +93,72 @@ fn refill(rt: &HostRuntime, bytes: &mut [u8], first: usize, size: usize) -> Resu
     Ok(n + more)
 }
 
-fn refilled(rt: &HostRuntime, bytes: &mut [u8], p: Place, first: usize) -> Result<Place> {
-    let size = refill(rt, bytes, first, p.size)?;
-    Ok(Place {
-        before: wrapping_add_u64(p.before, first as u64),
-        size: size,
-        at: 0,
-        ended: size < bytes.len(),
-        behind: p.behind,
-        frames: p.frames,
-        passed: p.passed,
-        done: false,
-    })
-}
-
-fn write(rt: &HostRuntime, text: Text) -> Result<()>
-    requires { text.size ≤ length text.bytes }
-{
-    let bytes = text.bytes;
-    print::write(rt, &bytes, text.size)
-}
-
 // Tells of the bytes between two positions, if there are any, and says how many they are.
 fn stretch(rt: &HostRuntime, behind: u64, position: u64) -> Result<u64> {
-    let n = wrapping_sub_u64(position, behind);
+    let n = position.wrapping_sub(behind);
     if n != 0 {
-        write(rt, stretch_line(behind, n))?;
+        stretch_line(behind, n).write(rt)?;
     }
     Ok(n)
 }
 
-// Tells of a frame at a place of the bytes that are held.
-fn told(rt: &HostRuntime, p: Place, at: usize, frame: Frame) -> Result<Place> {
-    let position = wrapping_add_u64(p.before, at as u64);
-    let n = stretch(rt, p.behind, position)?;
-    write(rt, frame_line(position, frame))?;
-    Ok(Place {
-        before: p.before,
-        size: p.size,
-        at: wrapping_add_usize(at, frame.bytes.0 as usize),
-        ended: p.ended,
-        behind: wrapping_add_u64(position, frame.bytes.0 as u64),
-        frames: wrapping_add_u64(p.frames, 1),
-        passed: wrapping_add_u64(p.passed, n),
-        done: false,
-    })
-}
+impl Place {
+    // Tells of a frame at a place of the bytes that are held.
+    fn told(self, rt: &HostRuntime, at: usize, frame: Frame) -> Result<Place> {
+        let position = self.before.wrapping_add(at as u64);
+        let n = stretch(rt, self.behind, position)?;
+        frame_line(position, frame).write(rt)?;
+        let bytes = frame.bytes.0;
+        Ok(Place {
+            at: at.wrapping_add(usize::from(bytes)),
+            behind: position.wrapping_add(u64::from(bytes)),
+            frames: self.frames.wrapping_add(1),
+            passed: self.passed.wrapping_add(n),
+            ..self
+        })
+    }
 
-// Tells of what lies behind the last frame, and of the sums.
-fn finished(rt: &HostRuntime, p: Place) -> Result<Place> {
-    let all = wrapping_add_u64(p.before, p.size as u64);
-    let n = stretch(rt, p.behind, all)?;
-    write(rt, last_line(p.frames, all, wrapping_add_u64(p.passed, n)))?;
-    Ok(Place {
-        before: p.before,
-        size: p.size,
-        at: p.size,
-        ended: true,
-        behind: all,
-        frames: p.frames,
-        passed: p.passed,
-        done: true,
-    })
-}
+    // Holds the bytes from one on, and more of the capture behind them.
+    fn refilled(self, rt: &HostRuntime, bytes: &mut [u8], first: usize) -> Result<Place> {
+        let size = refill(rt, bytes, first, self.size)?;
+        Ok(Place {
+            before: self.before.wrapping_add(first as u64),
+            size,
+            at: 0,
+            ended: size < bytes.len(),
+            ..self
+        })
+    }
 
-// One frame more; or more of the capture, where none is found in what is held; or the end.
-fn step(rt: &HostRuntime, bytes: &mut [u8], p: Place) -> Result<Place> {
-    let found = next_of(bytes, p.size, p.at, p.ended);
-    let answer = found.answer;
-    let verdict = answer.verdict;
-    match verdict {
-        Verdict::Accepted => told(rt, p, found.position, answer.frame),
-        Verdict::Refused(_, _, _) => {
-            if p.ended {
-                return finished(rt, p);
+    // Tells of what lies behind the last frame, and of the sums.
+    fn finish(self, rt: &HostRuntime) -> Result<()> {
+        let all = self.before.wrapping_add(self.size as u64);
+        let n = stretch(rt, self.behind, all)?;
+        last_line(self.frames, all, self.passed.wrapping_add(n)).write(rt)
+    }
+
+    // One frame more; or more of the capture, where none is found in what is held; or the end, where there is no next place.
+    fn step(self, rt: &HostRuntime, bytes: &mut [u8]) -> Result<Option<Place>> {
+        let found = next_of(bytes, self.size, self.at, self.ended);
+        let answer = found.answer;
+        match answer.verdict {
+            Verdict::Accepted => Ok(Some(self.told(rt, found.position, answer.frame)?)),
+            Verdict::Refused(_, _, _) => {
+                if self.ended {
+                    self.finish(rt)?;
+                    Ok(None)
+                } else {
+                    let first = self.at.wrapping_add(found.tried);
+                    Ok(Some(self.refilled(rt, bytes, first)?))
+                }
             }
-            refilled(rt, bytes, p, wrapping_add_usize(p.at, found.tried))
         }
     }
 }
 
-fn begun() -> Place {
-    Place {
+// A proved loop has to end, and nothing says that a capture does: the turns are counted up to a number that no run comes to.
+fn tell(rt: &HostRuntime, bytes: &mut [u8]) -> Result<()> {
+    let mut place = Place {
         before: 0,
         size: 0,
         at: 0,
@@ -198,23 +166,18 @@ fn begun() -> Place {
         behind: 0,
         frames: 0,
         passed: 0,
-        done: false,
-    }
-}
-
-// A proved loop has to end, and nothing says that a capture does: the turns are counted down from a number that no run uses up.
-fn tell(rt: &HostRuntime, bytes: &mut [u8]) -> Result<()> {
-    let mut p = begun();
-    let mut turns = u64::MAX;
-    while turns > 0 && !p.done {
-        p = step(rt, bytes, p)?;
-        turns -= 1;
+    };
+    for _ in 0..u64::MAX {
+        match place.step(rt, bytes)? {
+            Some(next) => place = next,
+            None => break,
+        }
     }
     Ok(())
 }
 
 fn main(rt: HostRuntime) -> Result<()> {
-    write(&rt, heading())?;
+    heading().write(&rt)?;
     let mut bytes = [0u8; 16384];
     tell(&rt, &mut bytes)
 }

@@ -3,13 +3,13 @@
 // that they are made and written; what must be printed comes from the reference of compare/gains.rs.
 #![tactic(auto)]
 
-ghost use Rattle.std.specs.Prelude.{◌≡◌, true, ◌+◌, ◌*◌, ◌^◌, ◌≤◌, ◌<◌};
+ghost use Rattle.std.specs.Prelude.{◌+◌, ◌^◌, ◌≤◌, ◌<◌};
 
 use answer::Answer;
 use gain::Range;
 use gain_range::FrameGains;
 use listing::first_line;
-use print::{decimal, put, write};
+use print::Text;
 use std::io::Result;
 
 // 20 log10 (1 + Y / 32), in millionths of a dB, for Y from 0 to 31.
@@ -41,20 +41,12 @@ fn more(n: u32, step: u32, x: f64) -> u32
 fn parts_of(x: f64) -> u32 {
     let mut n: u32 = 0;
     let mut step: u32 = 1048576;
+    // Stays: the step is halved, and no range or iterator of the library halves.
     while 0 < step {
         n = more(n, step, x);
-        step = step / 2;
+        step /= 2;
     }
     n
-}
-
-fn ends_in_zero(d: u64) -> bool
-    ensures { result ≡ true → 9 < d }
-{
-    if d < 10 {
-        return false;
-    }
-    d % 10 == 0
 }
 
 // The digits behind the point of so many parts of 8,192, after a 1, and without zeros at their end: a part is 5^13 of 10^13.
@@ -62,100 +54,87 @@ fn digits_of(rest: u32) -> u64
     requires { rest < 8192 }
 {
     let mut d = 10000000000000 + rest as u64 * 1220703125;
-    while ends_in_zero(d) {
-        d = d / 10;
+    // Stays: no method of the library takes zeros from a number's end.
+    while 10 <= d && d % 10 == 0 {
+        d /= 10;
     }
     d
 }
 
 // The digits of a number but for the first one.
-fn later_digits(out: &mut [u8], at: usize, n: u64) -> usize {
+fn later_digits<const N: usize>(out: &mut Text<N>, n: u64) {
     let mut digits = [0u8; 20];
     let k = io::decimal(n, &mut digits);
-    put(out, at, &digits[1..k])
+    out.put(&digits[1..k]);
 }
 
 // A factor in decimal.
-fn factor(out: &mut [u8], at: usize, n: u32) -> usize {
-    let at = decimal(out, at, (n / 8192) as u64);
-    if n % 8192 == 0 {
-        return at;
+fn factor<const N: usize>(out: &mut Text<N>, n: u32) {
+    out.decimal((n / 8192) as u64);
+    if n % 8192 != 0 {
+        out.put(b".");
+        later_digits(out, digits_of(n % 8192));
     }
-    let at = put(out, at, b".");
-    later_digits(out, at, digits_of(n % 8192))
-}
-
-fn wide(x: u32) -> u64
-    ensures { result < 2 ^ 32 }
-{
-    x as u64
 }
 
 // So many parts of 8,192 in millionths of a dB, from 1/256 on.
 fn millionths(n: u32) -> u64
     ensures { result < 2 ^ 56 }
 {
-    let steps = STEPS;
     let mut m = n;
     let mut doubles: u32 = 0;
+    // Stays: the number is halved, and no range or iterator of the library halves.
     while 63 < m {
-        m = m / 2;
+        m /= 2;
         doubles += 1;
     }
-    doubles as u64 * DOUBLE + wide(steps[(m % 32) as usize])
+    doubles as u64 * DOUBLE + STEPS[(m % 32) as usize] as u64
 }
 
 // Hundredths in decimal.
-fn hundredths(out: &mut [u8], at: usize, h: u64) -> usize {
-    let at = decimal(out, at, h / 100);
-    let at = put(out, at, b".");
-    later_digits(out, at, 100 + h % 100)
+fn hundredths<const N: usize>(out: &mut Text<N>, h: u64) {
+    out.decimal(h / 100);
+    out.put(b".");
+    later_digits(out, 100 + h % 100);
 }
 
 // A factor in dB.
-fn decibels(out: &mut [u8], at: usize, n: u32) -> usize {
+fn decibels<const N: usize>(out: &mut Text<N>, n: u32) {
     let v = millionths(n);
     if v < EIGHT_DOUBLES {
-        let at = put(out, at, b"-");
-        return hundredths(out, at, (EIGHT_DOUBLES - v + 5000) / 10000);
+        out.put(b"-");
     }
-    hundredths(out, at, (v - EIGHT_DOUBLES + 5000) / 10000)
-}
-
-fn at_most(n: usize) -> usize
-    ensures { result ≤ 128 }
-{
-    if n < 128 { n } else { 128 }
+    hundredths(out, (v.abs_diff(EIGHT_DOUBLES) + 5000) / 10000);
 }
 
 // The line of one word.
 fn line(rt: &HostRuntime, name: &[u8], r: Range) -> Result<()> {
-    let mut out = [0u8; 128];
-    let at = put(&mut out, 0, name);
+    let mut out: Text<128> = Text::new();
+    out.put(name);
     if r.words == 0 {
-        let at = put(&mut out, at, b": no word sent\n");
-        return write(rt, &out, at_most(at));
+        out.put(b": no word sent\n");
+        return out.write(rt);
     }
     let low = parts_of(r.low);
     let high = parts_of(r.high);
-    let at = put(&mut out, at, b": words ");
-    let at = decimal(&mut out, at, r.words as u64);
-    let at = put(&mut out, at, b", factors ");
-    let at = factor(&mut out, at, low);
-    let at = put(&mut out, at, b" to ");
-    let at = factor(&mut out, at, high);
-    let at = put(&mut out, at, b", dB ");
-    let at = decibels(&mut out, at, low);
-    let at = put(&mut out, at, b" to ");
-    let at = decibels(&mut out, at, high);
-    let at = put(&mut out, at, b"\n");
-    write(rt, &out, at_most(at))
+    out.put(b": words ");
+    out.decimal(r.words as u64);
+    out.put(b", factors ");
+    factor(&mut out, low);
+    out.put(b" to ");
+    factor(&mut out, high);
+    out.put(b", dB ");
+    decibels(&mut out, low);
+    out.put(b" to ");
+    decibels(&mut out, high);
+    out.put(b"\n");
+    out.write(rt)
 }
 
 fn answered(rt: &HostRuntime, answer: Answer) -> Result<()> {
-    let mut out = [0u8; 128];
-    let n = first_line(&mut out, 0, answer);
-    write(rt, &out, n)
+    let mut out: Text<128> = Text::new();
+    first_line(&mut out, answer);
+    out.write(rt)
 }
 
 // The lines of a frame, to standard output.

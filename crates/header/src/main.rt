@@ -8,7 +8,7 @@ ghost use Rattle.names.specs.Spelling.{rows};
 use bits::{BitPlace, ByteCount};
 use lent::Reader;
 use names::numbers;
-use print::number;
+use print::Text;
 use std::io::Result;
 use syntax::room::RecordRoom;
 use syntax::{Cursor, Label};
@@ -73,12 +73,12 @@ fn line(
 ) -> Result<()>
     requires { table.now ≡ rows }
 {
-    let mut out = [0u8; 64];
-    let at = number(&mut out, 0, first as u64, b' ');
-    let at = number(&mut out, at, wide as u64, b' ');
-    let at = print::name(table, &mut out, at, name, b' ');
-    let at = number(&mut out, at, value as u64, b'\n');
-    print::write(rt, &out, at)
+    let mut out: Text<64> = Text::new();
+    out.number(first as u64, b' ');
+    out.number(wide as u64, b' ');
+    out.name(table, name, b' ');
+    out.number(value as u64, b'\n');
+    out.write(rt)
 }
 
 fn lines(

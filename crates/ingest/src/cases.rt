@@ -1,13 +1,16 @@
 // Slices on standard input, each after two bytes that say its length, the high byte first.
-ghost use Rattle.std.specs.Prelude.{◌≡◌, ◌+◌, ◌*◌, ◌≤◌, ◌<◌, IfOk, min, drop, replicate};
+ghost use Rattle.std.specs.Prelude.{◌≡◌, ◌+◌, ◌*◌, ◌≤◌, ◌<◌, IfOk, drop, replicate, take};
 
 use std::io::Result;
+
+// No list has a longer slice.
+const LONGEST: usize = 4200;
 
 // A number of two bytes.
 pub fn pair(high: u8, low: u8) -> usize
     ensures { (result ≡ 256 * high + low) × (result < 65536) }
 {
-    256 * high as usize + low as usize
+    usize::from(u16::from_be_bytes([high, low]))
 }
 
 // The number of the next two bytes.
@@ -19,19 +22,27 @@ pub fn input_pair(rt: &HostRuntime) -> Result<usize>
     Ok(pair(bytes[0], bytes[1]))
 }
 
-// The length of a slice: no list has one above 4,200.
-pub fn length(n: usize) -> usize
-    ensures { result ≡ min n 4200 }
-{
-    if n < 4200 { n } else { 4200 }
+// A slice: the first bytes of a buffer, which has 0 after them.
+#[derive(Drop)]
+pub struct Slice {
+    pub buffer: [u8; 4200],
+    pub size: usize,
+    ghost within: { size ≤ 4200 },
+    ghost zeros: { drop size buffer ≡ drop size (replicate 4200 0) },
 }
 
-// The next n bytes, and 0 after them.
-pub fn slice(rt: &HostRuntime, n: usize) -> Result<[u8; 4200]>
-    requires { n ≤ 4200 }
-    ensures { IfOk result (λ bytes. drop n bytes ≡ drop n (replicate 4200 0)) }
-{
-    let mut bytes = [0u8; 4200];
-    print::read_full(&mut rt.stdin(), &mut bytes[..n])?;
-    Ok(bytes)
+impl Slice {
+    pub fn bytes(&self) -> &[u8]
+        ensures { result.now ≡ take self.now.size self.now.buffer }
+    {
+        &self.buffer[..self.size]
+    }
+}
+
+// The next slice, after its length.
+pub fn input_slice(rt: &HostRuntime) -> Result<Slice> {
+    let size = input_pair(rt)?.min(LONGEST);
+    let mut buffer = [0u8; 4200];
+    print::read_full(&mut rt.stdin(), &mut buffer[..size])?;
+    Ok(Slice { buffer, size })
 }

@@ -29,13 +29,13 @@ pub fn records_of(src: &[u8]) -> Records
         &mut values,
     );
     Records {
-        answer: answer,
-        names: names,
-        blocks: blocks,
-        indexes: indexes,
-        firsts: firsts,
-        widths: widths,
-        values: values,
+        answer,
+        names,
+        blocks,
+        indexes,
+        firsts,
+        widths,
+        values,
     }
 }
 

@@ -1,15 +1,11 @@
 -- Laws of a listing. Assumes nothing.
-use mathlib.Core.Path.{◌≡◌, sym, ap, ap₂}
-use mathlib.Core.List.{List}
-use Prim.Native.Nat.{ℕ, zero, suc, ◌+◌, ◌*◌, ◌≤◌, min}
-use native.Mathlib.Numerals.{add-one}
+use Prim.Native.Nat.{ℕ, zero, suc, ◌*◌, ◌≤◌, min}
 use native.Mathlib.Omega.{arith}
 use lib.IntN.{ℤ, pos, negsuc}
 use lib.ListN.{length, get_or, length-append}
 use Rattle.names.specs.Spelling.{bytes}
 use Rattle.names.proofs.Rows.{spelling-short}
-use Rattle.print.specs.Text.{decimal_of, signed_of, Added}
-use Rattle.print.proofs.Adding.{◌then◌, meant}
+use Rattle.print.specs.Text.{decimal_of, signed_of}
 use Rattle.print.proofs.Decimals.{few}
 use Rattle.answer.specs.Answer.{count_of}
 use Rattle.answer.specs.declared.Frame.{Frame}
@@ -17,16 +13,6 @@ use Rattle.answer.specs.declared.Verdict.{Verdict}
 use Rattle.answer.specs.declared.Verdict.TheVariants.{Accepted, Refused}
 use Rattle.listing.specs.declared.Records.{Records}
 use Rattle.listing.specs.Listing.{three_line, first_by, record_line, lines_of, listing_of}
-
--- one line more
-pub one_more : {old mid new : List ℕ} {at n size : ℕ} (r : Records) (i : ℕ) (b x : ℤ) → b ≡ get_or r.blocks i (pos 0) → x ≡ get_or r.indexes i (pos 0)
-    → Added old at (lines_of r i) mid n
-    → Added mid n (record_line (get_or r.firsts i 0) (get_or r.widths i 0) (get_or r.names i 0) b x (get_or r.values i 0)) new size
-    → Added old at (lines_of r (i + 1)) new size
-unfolding lines_of
-one_more r i b x e f p q =
-    meant (sym (ap (lines_of r) (add-one i)))
-    (p then meant (ap₂ (λ b x. record_line (get_or r.firsts i 0) (get_or r.widths i 0) (get_or r.names i 0) b x (get_or r.values i 0)) e f) q)
 
 -- every word is short
 decimal-short : (n : ℕ) → length (decimal_of n) ≤ 20

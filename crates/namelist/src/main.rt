@@ -5,65 +5,57 @@ ghost use Rattle.std.specs.Prelude.{◌≡◌};
 ghost use Rattle.names.specs.Spelling.{rows};
 
 use names::Role;
-use print::{number, put};
+use print::Text;
 use std::io::Result;
 
 // A role that belongs to a programme, with the programme's number.
-fn of_programme(out: &mut [u8], at: usize, role: &[u8], programme: u8) -> usize {
-    let at = put(out, at, role);
-    let at = put(out, at, b"(");
-    number(out, at, programme as u64, b')')
+fn of_programme<const N: usize>(out: &mut Text<N>, role: &[u8], programme: u8) {
+    out.put(role);
+    out.put(b"(");
+    out.number(programme as u64, b')');
 }
 
-fn role(out: &mut [u8], at: usize, r: Role) -> usize {
+fn role<const N: usize>(out: &mut Text<N>, r: Role) {
     match r {
-        Role::Plain => put(out, at, b"Plain"),
-        Role::Sync => put(out, at, b"Sync"),
-        Role::Crc1 => put(out, at, b"Crc1"),
-        Role::Crc2 => put(out, at, b"Crc2"),
-        Role::CrcRsv => put(out, at, b"CrcRsv"),
-        Role::FrameSize => put(out, at, b"FrameSize"),
-        Role::Dialnorm(p) => of_programme(out, at, b"Dialnorm", p),
-        Role::ComprExists(p) => of_programme(out, at, b"ComprExists", p),
-        Role::Compr(p) => of_programme(out, at, b"Compr", p),
-        Role::DynrngExists(p) => of_programme(out, at, b"DynrngExists", p),
-        Role::Dynrng(p) => of_programme(out, at, b"Dynrng", p),
-        Role::Skiple => put(out, at, b"Skiple"),
-        Role::Skipl => put(out, at, b"Skipl"),
-        Role::Skipfld => put(out, at, b"Skipfld"),
-        Role::Addbsi => put(out, at, b"Addbsi"),
-        Role::Mantissas => put(out, at, b"Mantissas"),
-        Role::AuxBits => put(out, at, b"AuxBits"),
-        Role::AuxDataL => put(out, at, b"AuxDataL"),
-        Role::AuxDataE => put(out, at, b"AuxDataE"),
-        Role::BlkStrtInfoE => put(out, at, b"BlkStrtInfoE"),
-        Role::BlkStrtInfo => put(out, at, b"BlkStrtInfo"),
+        Role::Plain => out.put(b"Plain"),
+        Role::Sync => out.put(b"Sync"),
+        Role::Crc1 => out.put(b"Crc1"),
+        Role::Crc2 => out.put(b"Crc2"),
+        Role::CrcRsv => out.put(b"CrcRsv"),
+        Role::FrameSize => out.put(b"FrameSize"),
+        Role::Dialnorm(p) => of_programme(out, b"Dialnorm", p),
+        Role::ComprExists(p) => of_programme(out, b"ComprExists", p),
+        Role::Compr(p) => of_programme(out, b"Compr", p),
+        Role::DynrngExists(p) => of_programme(out, b"DynrngExists", p),
+        Role::Dynrng(p) => of_programme(out, b"Dynrng", p),
+        Role::Skiple => out.put(b"Skiple"),
+        Role::Skipl => out.put(b"Skipl"),
+        Role::Skipfld => out.put(b"Skipfld"),
+        Role::Addbsi => out.put(b"Addbsi"),
+        Role::Mantissas => out.put(b"Mantissas"),
+        Role::AuxBits => out.put(b"AuxBits"),
+        Role::AuxDataL => out.put(b"AuxDataL"),
+        Role::AuxDataE => out.put(b"AuxDataE"),
+        Role::BlkStrtInfoE => out.put(b"BlkStrtInfoE"),
+        Role::BlkStrtInfo => out.put(b"BlkStrtInfo"),
     }
 }
 
 fn line(rt: &HostRuntime, table: &[u8; 3232], name: u8) -> Result<()>
     requires { table.now ≡ rows }
 {
-    let mut out = [0u8; 64];
-    let at = number(&mut out, 0, name as u64, b' ');
-    let at = print::name(table, &mut out, at, name, b' ');
-    let at = role(&mut out, at, names::role_of(name));
-    let at = put(&mut out, at, b"\n");
-    print::write(rt, &out, at)
-}
-
-fn lines(rt: &HostRuntime, table: &[u8; 3232], all: [u8; 202]) -> Result<()>
-    requires { table.now ≡ rows }
-{
-    let mut i = 0;
-    while i < 202 {
-        line(rt, table, all[i])?;
-        i += 1;
-    }
-    Ok(())
+    let mut out: Text<64> = Text::new();
+    out.number(name as u64, b' ');
+    out.name(table, name, b' ');
+    role(&mut out, names::role_of(name));
+    out.put(b"\n");
+    out.write(rt)
 }
 
 fn main(rt: HostRuntime) -> Result<()> {
     let table = names::table();
-    lines(&rt, &table, names::all())
+    for name in names::all() {
+        line(&rt, &table, name)?;
+    }
+    Ok(())
 }

@@ -1,22 +1,14 @@
 -- Laws of numbers in decimal. Assumes nothing.
-use mathlib.Core.Path.{◌≡◌, refl, sym, ap, ◌∙◌, subst}
-use mathlib.Core.Bool.{Bool, true, false, true≢false}
-use mathlib.Core.List.{List, [], ◌∷◌, ◌++◌}
+use mathlib.Core.Path.{◌≡◌, refl, ap, ◌∙◌, subst}
+use mathlib.Core.List.{List, ◌∷◌}
 use Prim.Native.Nat.{ℕ, zero, suc, ◌-◌, ◌*◌, ◌/◌, ◌%◌, ◌^◌, ◌≤◌, ◌<◌}
 use native.Mathlib.Nat.{pow-suc, pow-le-pow_right}
 use native.Mathlib.Omega.{arith}
 use native.Mathlib.Decide.{dec_lt}
-use lib.IntN.{ℤ, pos, negsuc, nat_abs}
-use lib.Signed.{lt_z}
 use lib.ListN.{length, take, replicate, length-append}
-use mir.Syntax.{w16}
-use mir.Val.{SFits, to_z, of_z}
-use mir.Facts.{to_z-of_z}
 use borrow.Author.Tests.{lt-ltb, le-ltb}
 use Rattle.io.specs.Digits as io
-use Rattle.print.specs.Text.{digits, decimal_of, signed_of, Added}
-use Rattle.print.proofs.Signs.{not-below}
-use Rattle.print.proofs.Adding.{◌then◌}
+use Rattle.print.specs.Text.{digits, decimal_of}
 
 one-le : (k : ℕ) → 1 ≤ 10 ^ k
 one-le zero = omega arith
@@ -73,25 +65,3 @@ first_of (suc n) (suc m) x h = ap (λ l. x ∷ l) (first_of n m x (omega arith))
 -- the digits of the library are those of the definition
 pub library : (out : List ℕ) (n k : ℕ) → n < 18446744073709551616 → io.IsDigitCount 10 1 n k → take k out ≡ io.last_digits 10 k n → take k out ≡ decimal_of n
 library out n k h f e = e ∙ fewest 20 k n (no_more n k h f) f
-
--- a sign where there is one
-below : (z : ℤ) → lt_z z (pos 0) ≡ true → signed_of z ≡ 45 ∷ decimal_of (nat_abs z)
-below (pos n) e = not-below n e
-below (negsuc n) e = refl
-
-above : (z : ℤ) → lt_z z (pos 0) ≡ false → signed_of z ≡ decimal_of (nat_abs z)
-above (pos n) e = refl
-above (negsuc n) e = absurd (true≢false e)
-
-read : {b : Bool} {z : ℤ} → SFits w16 z → lt_z (to_z w16 (of_z w16 z)) (pos 0) ≡ b → lt_z z (pos 0) ≡ b
-read s e = ap (λ u. lt_z u (pos 0)) (sym (to_z-of_z s)) ∙ e
-
-pub minus : {old mid new : List ℕ} {at m k size : ℕ} {z : ℤ} → SFits w16 z → lt_z (to_z w16 (of_z w16 z)) (pos 0) ≡ true → m ≡ nat_abs (to_z w16 (of_z w16 z))
-    → (end : List ℕ) → Added old at (45 ∷ []) mid k → Added mid k (decimal_of m ++ end) new size → Added old at (signed_of z ++ end) new size
-minus {old} {mid} {new} {at} {m} {k} {size} {z} s e a end p q =
-    subst (λ t. Added old at (t ++ end) new size) (sym (below z (read s e) ∙ ap (λ n. 45 ∷ decimal_of n) (sym (a ∙ ap nat_abs (to_z-of_z s))))) (p then q)
-
-pub no_minus : {old new : List ℕ} {at m size : ℕ} {z : ℤ} → SFits w16 z → lt_z (to_z w16 (of_z w16 z)) (pos 0) ≡ false → m ≡ nat_abs (to_z w16 (of_z w16 z))
-    → (end : List ℕ) → Added old at (decimal_of m ++ end) new size → Added old at (signed_of z ++ end) new size
-no_minus {old} {new} {at} {m} {size} {z} s e a end p =
-    subst (λ t. Added old at (t ++ end) new size) (sym (above z (read s e) ∙ ap decimal_of (sym (a ∙ ap nat_abs (to_z-of_z s))))) p

@@ -1,3 +1,3 @@
-pub mod Signs
-pub mod Adding
+pub mod Adds
 pub mod Decimals
+pub mod Signs

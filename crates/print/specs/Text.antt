@@ -1,5 +1,5 @@
--- Text as bytes: numbers in decimal, and a buffer whose first bytes are a text.
-use Rattle.std.specs.Prelude.{◌≡◌, cond, List, [], ◌∷◌, ◌++◌, ℕ, zero, suc, ◌+◌, ◌-◌, ◌/◌, ◌%◌, ◌≤◌, ltb, ℤ, pos, negsuc, length, take, replicate}
+-- Text as bytes: numbers in decimal, and what is added to a text.
+use Rattle.std.specs.Prelude.{◌≡◌, cond, List, [], ◌∷◌, ◌++◌, ℕ, zero, suc, ◌+◌, ◌-◌, ◌/◌, ◌%◌, ltb, ℤ, pos, negsuc, length, take, replicate}
 
 -- the last digits of a number, at most so many, and none before the first that is not 0
 unfoldable pub digits : ℕ → ℕ → List ℕ
@@ -19,13 +19,6 @@ signed_of (negsuc n) = 45 ∷ decimal_of (suc n)
 abbrev pub right_of : ℕ → ℕ → List ℕ
 right_of width n = replicate (width - length (decimal_of n)) 32 ++ decimal_of n
 
--- The first `size` bytes of a buffer are the `at` that it had and then more bytes, as far as it has room.
-pub record Added (old : List ℕ) (at : ℕ) (bytes new : List ℕ) (size : ℕ) : Type 0 where
-  pub same : length new ≡ length old
-  pub within : size ≤ length old
-  pub text : take size new ≡ take (length old) (take at old ++ bytes)
-
--- the first `size` bytes of a buffer are a text
-pub record Holds (out : List ℕ) (size : ℕ) (bytes : List ℕ) : Type 0 where
-  pub within : size ≤ length out
-  pub text : take size out ≡ bytes
+-- bytes are added to a text, as far as there is room: it has n at most
+pub record Adds (n : ℕ) (old bytes new : List ℕ) : Type 0 where
+  pub is : new ≡ take n (old ++ bytes)

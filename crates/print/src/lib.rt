@@ -1,18 +1,110 @@
-// Text in a lent buffer, the one function that writes it to standard output, and the one that reads standard input. A function
-// that adds to a text takes the buffer and how many bytes the text has so far, and gives how many it then has. What finds no room is left out.
+// Text in a buffer of N bytes, which is written to standard output as a whole, and the one function that reads standard input.
 #![tactic(auto)]
 
-ghost use Rattle.std.specs.Prelude.{◌≡◌, [], ◌∷◌, ◌++◌, ◌-◌, ◌≤◌, IfOk, min, nat_abs, length, replicate};
+ghost use Rattle.std.specs.Prelude.{◌≡◌, ◌≤◌, ℕ, List, [], ◌∷◌, ◌++◌, IfOk, length, take};
 ghost use Rattle.names.specs.Spelling.{spelling_of, rows};
-ghost use Rattle.print.specs.Text.{decimal_of, signed_of, right_of, Added};
+ghost use Rattle.print.specs.Text.{decimal_of, signed_of, right_of, Adds};
 
 use std::io::{Read, Result};
+use std::marker::Model;
 
-// Writes the first bytes of a buffer to standard output. No contract can say what is written.
-pub fn write(rt: &impl Print, text: &[u8], size: usize) -> Result<()>
-    requires { size ≤ length text.now }
-{
-    rt.write_all(&text[..size])
+// A text of at most N bytes. What finds no room is left out.
+#[derive(Drop)]
+pub struct Text<const N: usize> {
+    bytes: [u8; N],
+    len: usize,
+}
+
+// Clauses see the bytes of the text.
+impl<const N: usize> Model for Text<N> {
+    ghost Value = { List ℕ };
+
+    ghost view = { λ t. take t.len t.bytes };
+
+    ghost invariant = { λ t. t.len ≤ N };
+}
+
+impl<const N: usize> Text<N> {
+    pub fn new() -> Self
+        ensures { result ≡ [] }
+    {
+        Text {
+            bytes: [0; N],
+            len: 0,
+        }
+    }
+
+    pub fn as_bytes(&self) -> &[u8]
+        ensures { result.now ≡ self.now }
+    {
+        &self.bytes[..self.len]
+    }
+
+    // Writes the text to standard output. No contract can say what is written.
+    pub fn write(&self, rt: &impl Print) -> Result<()> {
+        rt.write_all(self.as_bytes())
+    }
+
+    // The bytes themselves.
+    pub fn put(&mut self, bytes: &[u8])
+        ensures { Adds N self.old bytes.now self.new }
+    {
+        let n = bytes.len().min(N - self.len);
+        let end = self.len + n;
+        let all = &mut self.bytes[..];
+        all[self.len..end].copy_from_slice(&bytes[..n]);
+        self.len = end;
+    }
+
+    // A number in decimal.
+    pub fn decimal(&mut self, n: u64)
+        ensures { Adds N self.old (decimal_of n) self.new }
+    {
+        let mut digits = [0u8; 20];
+        let k = io::decimal(n, &mut digits);
+        self.put(&digits[..k]);
+    }
+
+    // A number in decimal, and the byte that ends it.
+    pub fn number(&mut self, n: u64, end: u8)
+        ensures { Adds N self.old (decimal_of n ++ (end ∷ [])) self.new }
+    {
+        self.decimal(n);
+        self.put(&[end]);
+    }
+
+    // A number in decimal at the right end of so many bytes.
+    pub fn right(&mut self, n: u64, width: usize)
+        requires { width ≤ 20 }
+        ensures { Adds N self.old (right_of width n) self.new }
+    {
+        let mut digits = [0u8; 20];
+        let size = io::decimal(n, &mut digits);
+        let blanks = [b' '; 20];
+        self.put(&blanks[..width.saturating_sub(size)]);
+        self.put(&digits[..size]);
+    }
+
+    // A number in decimal, after a minus where it is below 0, and the byte that ends it.
+    pub fn signed(&mut self, n: i16, end: u8)
+        ensures { Adds N self.old (signed_of n ++ (end ∷ [])) self.new }
+    {
+        if n < 0 {
+            self.put(b"-");
+        }
+        self.number(n.unsigned_abs() as u64, end);
+    }
+
+    // The spelling of a name by its number, and the byte that ends it. The table is names::table().
+    pub fn name(&mut self, table: &[u8; 3232], name: u8, end: u8)
+        requires { table.now ≡ rows }
+        ensures { Adds N self.old (spelling_of name ++ (end ∷ [])) self.new }
+    {
+        let bytes = names::spelling(table, name);
+        let letters = names::letters(name) as usize;
+        self.put(&bytes[..letters]);
+        self.put(&[end]);
+    }
 }
 
 // Reads until the buffer is full or the input ends, and says how many bytes it put at the start of the buffer.
@@ -20,6 +112,7 @@ pub fn read_full<R: Read>(input: &mut R, bytes: &mut [u8]) -> Result<usize>
     ensures { IfOk result (λ n. n ≤ length bytes.new) }
 {
     let mut done = 0;
+    // Stays: a read says how many bytes it took, so no range counts the turns; Read has no method that stops at the end of input.
     while done < bytes.len() {
         let n = input.read(&mut bytes[done..])?;
         if n == 0 {
@@ -28,120 +121,4 @@ pub fn read_full<R: Read>(input: &mut R, bytes: &mut [u8]) -> Result<usize>
         done += n;
     }
     Ok(done)
-}
-
-fn least(a: usize, b: usize) -> usize
-    ensures { result ≡ min a b }
-{
-    if a < b { a } else { b }
-}
-
-// The bytes themselves.
-pub fn put(out: &mut [u8], at: usize, bytes: &[u8]) -> usize
-    ensures { Added out.old at bytes.now out.new result }
-{
-    let from = least(at, out.len());
-    let n = least(bytes.len(), out.len() - from);
-    let mut i = 0;
-    while i < n {
-        out[from + i] = bytes[i];
-        i += 1;
-    }
-    from + n
-}
-
-// One byte.
-fn byte(out: &mut [u8], at: usize, b: u8) -> usize
-    ensures { Added out.old at (b ∷ []) out.new result }
-{
-    let bytes = [b; 1];
-    put(out, at, &bytes)
-}
-
-// A number in decimal.
-pub fn decimal(out: &mut [u8], at: usize, n: u64) -> usize
-    ensures { Added out.old at (decimal_of n) out.new result }
-{
-    let mut digits = [0u8; 20];
-    let k = io::decimal(n, &mut digits);
-    put(out, at, &digits[..k])
-}
-
-// A number in decimal, and the byte that ends it.
-pub fn number(out: &mut [u8], at: usize, n: u64, end: u8) -> usize
-    ensures { Added out.old at (decimal_of n ++ (end ∷ [])) out.new result }
-{
-    let after = decimal(out, at, n);
-    byte(out, after, end)
-}
-
-fn difference(a: usize, b: usize) -> usize
-    ensures { result ≡ a - b }
-{
-    if b < a { a - b } else { 0 }
-}
-
-fn blanks(out: &mut [u8], at: usize, n: usize) -> usize
-    requires { n ≤ 20 }
-    ensures { Added out.old at (replicate n 32) out.new result }
-{
-    let twenty = [b' '; 20];
-    put(out, at, &twenty[..n])
-}
-
-// A number in decimal at the right end of so many bytes.
-pub fn right(out: &mut [u8], at: usize, n: u64, width: usize) -> usize
-    requires { width ≤ 20 }
-    ensures { Added out.old at (right_of width n) out.new result }
-{
-    let mut digits = [0u8; 20];
-    let k = io::decimal(n, &mut digits);
-    let after = blanks(out, at, difference(width, k));
-    put(out, after, &digits[..k])
-}
-
-// A number without its sign.
-fn magnitude(n: i16) -> u16
-    ensures { result ≡ nat_abs n }
-{
-    if n < 0 {
-        return (0 - n as i32) as u16;
-    }
-    n as u16
-}
-
-// A number in decimal, after a minus where it is below 0, and the byte that ends it.
-pub fn signed(out: &mut [u8], at: usize, n: i16, end: u8) -> usize
-    ensures { Added out.old at (signed_of n ++ (end ∷ [])) out.new result }
-{
-    if n < 0 {
-        let after = byte(out, at, b'-');
-        return number(out, after, magnitude(n) as u64, end);
-    }
-    number(out, at, magnitude(n) as u64, end)
-}
-
-// The same of a byte with a sign.
-pub fn signed_byte(out: &mut [u8], at: usize, n: i8, end: u8) -> usize
-    ensures { Added out.old at (signed_of n ++ (end ∷ [])) out.new result }
-{
-    signed(out, at, n as i16, end)
-}
-
-fn spelling(table: &[u8; 3232], out: &mut [u8], at: usize, name: u8) -> usize
-    requires { table.now ≡ rows }
-    ensures { Added out.old at (spelling_of name) out.new result }
-{
-    let bytes = names::spelling(table, name);
-    let letters = names::letters(name) as usize;
-    put(out, at, &bytes[..letters])
-}
-
-// The spelling of a name by its number, and the byte that ends it. The table is names::table().
-pub fn name(table: &[u8; 3232], out: &mut [u8], at: usize, name: u8, end: u8) -> usize
-    requires { table.now ≡ rows }
-    ensures { Added out.old at (spelling_of name ++ (end ∷ [])) out.new result }
-{
-    let after = spelling(table, out, at, name);
-    byte(out, after, end)
 }

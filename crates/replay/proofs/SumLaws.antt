@@ -6,9 +6,8 @@ use Rattle.print.proofs.Signs.{not-below}
 use Rattle.reading.specs.Room.{Room}
 use Rattle.answer.specs.declared.Frame.{Frame}
 use Rattle.answer.specs.declared.Verdict.{Verdict}
-use Rattle.answer_c.specs.Numbers.{frame_numbers}
 use Rattle.replay.specs.Sums.{raised_of, added_of, sum_of}
-use Rattle.replay.specs.Cases.{verdict_of, kept_of, agrees_of, ends_of, same_by}
+use Rattle.replay.specs.Cases.{kept_of, agrees_of, ends_of}
 use Rattle.replay.specs.declared.sums.Sum.{Sum}
 
 pub below : (z : ℤ) → lt_z z (pos 0) ≡ true → 0 ≡ raised_of z
@@ -34,6 +33,17 @@ pub more : (ours theirs : List ℕ) (k : ℕ) {a h b : Bool} → a ≡ agrees_of
 unfolding agrees_of
 more ours theirs k e f g = let z : k + 1 ≡ suc k = omega arith in g ∙ ap₂ ◌&&◌ e f ∙ ap (λ n. agrees_of ours theirs n) (sym z)
 
--- a case whose parts agree
-pub same-is : (v : Verdict) (f : Frame) (m : Room) (theirs : List ℕ) {s k : Sum} {ns : List ℕ} {x n l : ℕ} {r i b e : Bool} → r ≡ (eqb x (get_or theirs 0 0) && i) → i ≡ (b && e) → x ≡ verdict_of v → b ≡ agrees_of ns theirs 31 → ns ≡ frame_numbers f → e ≡ ends_of n k theirs → n ≡ min f.fields 65535 → k ≡ kept_of v s → s ≡ sum_of m l → l ≡ min f.fields 2048 → r ≡ same_by v f (sum_of m (min f.fields 2048)) theirs
-same-is v w m theirs a b c d e f g h i j = rw a (rw b (rw c (rw d (rw e (rw f (rw g (rw h (rw i (rw j refl)))))))))
+-- three tests, one after the other: all hold as far as the last; the second fails; the first fails
+pub third : {a b c : Bool} → a ≡ true → b ≡ true → c ≡ (a && (b && c))
+third e f = rw (e, f) refl
+
+pub not_second : {a b v : Bool} (c : Bool) → v ≡ false → a ≡ true → b ≡ false → v ≡ (a && (b && c))
+not_second c g e f = rw (g, e, f) refl
+
+pub not_first : {a v : Bool} (c : Bool) → v ≡ false → a ≡ false → v ≡ (a && c)
+not_first c g e = rw (g, e) refl
+
+-- the end of a case, by its parts
+pub ends-are : (v : Verdict) (f : Frame) (m : Room) (theirs : List ℕ) {n l : ℕ} {k s : Sum} {e : Bool} → e ≡ ends_of n k theirs → n ≡ min f.fields 65535 → k ≡ kept_of v s → s ≡ sum_of m l
+    → l ≡ min f.fields 2048 → e ≡ ends_of (min f.fields 65535) (kept_of v (sum_of m (min f.fields 2048))) theirs
+ends-are v f m theirs a b c d e = rw a (rw b (rw c (rw d (rw e refl))))

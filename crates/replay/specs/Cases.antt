@@ -7,6 +7,16 @@ use Rattle.answer_c.specs.Numbers.{frame_numbers}
 use Rattle.listing.specs.declared.Records.{Records}
 use Rattle.replay.specs.Sums.{sum, room_of, sum_of}
 use Rattle.replay.specs.declared.sums.Sum.{Sum}
+use Rattle.replay.specs.declared.cases.Kind.{Kind}
+use Rattle.replay.specs.declared.cases.Kind.TheVariants.{Accepted as accepted, Invalid, Unsupported, Truncated, NoRoom}
+
+-- what the Rust says of a slice, as a number of the list
+abbrev pub number_of : Kind → ℕ
+number_of accepted = 0
+number_of Invalid = 1
+number_of Unsupported = 2
+number_of Truncated = 3
+number_of NoRoom = 4
 
 -- the Rust's error by document 01's number: 1 Invalid, 2 Unsupported, 3 Truncated; 33 is none of the Rust's, and has 4
 abbrev pub kind_of : ℕ → ℕ

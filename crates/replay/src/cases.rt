@@ -1,38 +1,59 @@
 // Whether a slice is read as a case of the list has it.
-ghost use Rattle.std.specs.Prelude.{◌≡◌, ◌+◌, ◌*◌, min, ◌&&◌, ◌==◌};
-ghost use Rattle.replay.specs.Cases.{kind_of, verdict_of, kept_of, agrees_of, ends_of, same_of};
+ghost use Rattle.std.specs.Prelude.{◌≡◌, ◌+◌, ◌*◌, ◌==◌};
+ghost use Rattle.replay.specs.Cases.{kind_of, verdict_of, kept_of, agrees_of, ends_of, same_of, number_of};
 
-use crate::sums::{Sum, summed};
+use crate::sums::Sum;
 use answer::Verdict;
 use answer_c::numbers;
+use ingest::cases::pair;
 use listing::Records;
 
-// The Rust's error by the number of a refusal: 1 Invalid, 2 Unsupported, 3 Truncated; 4 for 33, which it has not.
-fn kind(number: u8) -> u8
-    ensures { result ≡ kind_of number }
-{
-    match number {
-        5 => 2,
-        9 => 2,
-        8 => 3,
-        33 => 4,
-        _ => 1,
+// What the Rust says of a slice: accepted, or one of its errors; a refusal for want of room it has not.
+#[derive(Clone, Copy, PartialEq, Eq)]
+enum Kind {
+    Accepted,
+    Invalid,
+    Unsupported,
+    Truncated,
+    NoRoom,
+}
+
+impl Kind {
+    // The Rust's error by the number of a refusal.
+    fn of_refusal(number: u8) -> Kind
+        ensures { number_of result ≡ kind_of number }
+    {
+        match number {
+            5 | 9 => Kind::Unsupported,
+            8 => Kind::Truncated,
+            33 => Kind::NoRoom,
+            _ => Kind::Invalid,
+        }
+    }
+
+    // The number that a list has for it.
+    fn number(self) -> u8
+        ensures { result ≡ number_of self }
+    {
+        match self {
+            Kind::Accepted => 0,
+            Kind::Invalid => 1,
+            Kind::Unsupported => 2,
+            Kind::Truncated => 3,
+            Kind::NoRoom => 4,
+        }
     }
 }
 
-fn verdict_of(v: Verdict) -> u8
-    ensures { result ≡ verdict_of v }
-{
-    match v {
-        Verdict::Accepted => 0,
-        Verdict::Refused(number, _, _) => kind(number),
-    }
-}
+impl From<Verdict> for Kind {
+    ghost from_gives = { λ v kind. number_of kind ≡ verdict_of v };
 
-fn counted(n: usize) -> u16
-    ensures { result ≡ min n 65535 }
-{
-    if n < 65535 { n as u16 } else { 65535 }
+    fn from(v: Verdict) -> Kind {
+        match v {
+            Verdict::Accepted => Kind::Accepted,
+            Verdict::Refused(number, _, _) => Kind::of_refusal(number),
+        }
+    }
 }
 
 // Nothing is summed up where a frame is refused.
@@ -45,57 +66,42 @@ fn kept(v: Verdict, s: Sum) -> Sum
     }
 }
 
-fn least(n: usize) -> usize
-    ensures { result ≡ min n 2048 }
-{
-    if n < 2048 { n } else { 2048 }
-}
-
 // Whether a number is that of two bytes.
 fn is_pair(n: u16, high: u8, low: u8) -> bool
     ensures { result ≡ (n == 256 * high + low) }
 {
-    n == 256 * high as u16 + low as u16
-}
-
-fn and(a: bool, b: bool) -> bool
-    ensures { result ≡ a && b }
-{
-    a && b
+    usize::from(n) == pair(high, low)
 }
 
 // Whether the numbers are those of a case: two bytes each, after that of the verdict.
-fn agrees(ours: [u16; 31], theirs: [u8; 69]) -> bool
-    ensures { result ≡ agrees_of ours theirs 31 }
+fn agrees(ours: &[u16; 31], theirs: &[u8; 69]) -> bool
+    ensures { result ≡ agrees_of ours.now theirs.now 31 }
 {
     let mut all = true;
-    let mut k = 0;
-    while k < 31 {
-        let here = is_pair(ours[k], theirs[2 * k + 1], theirs[2 * k + 2]);
-        all = and(all, here);
-        k += 1;
+    for (k, n) in ours.iter().enumerate() {
+        all &= is_pair(*n, theirs[2 * k + 1], theirs[2 * k + 2]);
     }
     all
 }
 
 // Whether the count of the records and the sum over them are those of a case.
-fn ends(count: u16, sum: Sum, theirs: [u8; 69]) -> bool
-    ensures { result ≡ ends_of count sum theirs }
+fn ends(count: u16, sum: Sum, theirs: &[u8; 69]) -> bool
+    ensures { result ≡ ends_of count sum theirs.now }
 {
-    let counts = is_pair(count, theirs[63], theirs[64]);
-    let high = is_pair(sum.b, theirs[65], theirs[66]);
-    and(counts, and(high, is_pair(sum.a, theirs[67], theirs[68])))
+    is_pair(count, theirs[63], theirs[64])
+        && is_pair(sum.b, theirs[65], theirs[66])
+        && is_pair(sum.a, theirs[67], theirs[68])
 }
 
 // Whether a slice is read as a case has it.
-pub fn same(r: Records, theirs: [u8; 69]) -> bool
-    ensures { result ≡ same_of r theirs }
+pub fn same(r: &Records, theirs: &[u8; 69]) -> bool
+    ensures { result ≡ same_of r.now theirs.now }
 {
     let answer = r.answer;
     let frame = answer.frame;
     let verdict = answer.verdict;
-    let sum = summed(r, least(frame.fields));
-    let numbers = agrees(numbers(frame), theirs);
-    let records = ends(counted(frame.fields), kept(verdict, sum), theirs);
-    and(verdict_of(verdict) == theirs[0], and(numbers, records))
+    let sum = Sum::of_records(r, frame.fields.min(2048));
+    Kind::from(verdict).number() == theirs[0]
+        && agrees(&numbers(frame), theirs)
+        && ends(frame.fields.min(65535) as u16, kept(verdict, sum), theirs)
 }

@@ -14,19 +14,11 @@ mod sums;
 
 use answer::{Answer, SlotBits, Verdict};
 use cases::same;
-use ingest::cases::{input_pair, length, pair, slice};
+use ingest::cases::{input_pair, input_slice, pair};
 use ingest::records_of;
 use listing::{first_line, text_of};
-use print::{decimal, put, write};
+use print::Text;
 use std::io::Result;
-use std::num::wrapping_add_u64;
-
-#[derive(Drop)]
-struct Tally {
-    verdicts: [u64; 4],
-    records: u64,
-    differences: u64,
-}
 
 fn answer(rt: &HostRuntime) -> Result<[u8; 69]> {
     let mut bytes = [0u8; 69];
@@ -34,113 +26,100 @@ fn answer(rt: &HostRuntime) -> Result<[u8; 69]> {
     Ok(bytes)
 }
 
-// One more case, with the number of records that it has.
-fn counted(t: Tally, theirs: [u8; 69]) -> Tally {
-    let mut verdicts = t.verdicts;
-    let v = theirs[0] as usize % 4;
-    verdicts[v] = wrapping_add_u64(verdicts[v], 1);
-    let records = pair(theirs[63], theirs[64]) as u64;
-    Tally {
-        verdicts: verdicts,
-        records: wrapping_add_u64(t.records, records),
-        differences: t.differences,
-    }
-}
-
 // A word and a number.
-fn part(out: &mut [u8], at: usize, name: &[u8], n: u64) -> usize {
-    let at = put(out, at, name);
-    decimal(out, at, n)
+fn part<const N: usize>(out: &mut Text<N>, name: &[u8], n: u64) {
+    out.put(name);
+    out.decimal(n);
 }
 
-fn differs(rt: &HostRuntime, t: Tally, case: usize) -> Result<Tally> {
-    let mut out = [0u8; 64];
-    let at = part(&mut out, 0, b"case ", case as u64);
-    let at = put(&mut out, at, b" differs\n");
-    write(rt, &out, at)?;
-    let verdicts = t.verdicts;
-    Ok(Tally {
-        verdicts: verdicts,
-        records: t.records,
-        differences: wrapping_add_u64(t.differences, 1),
-    })
+fn verdicts_line<const N: usize>(out: &mut Text<N>, verdicts: &[u64; 4]) {
+    part(out, b" accepted ", verdicts[0]);
+    part(out, b" invalid ", verdicts[1]);
+    part(out, b" unsupported ", verdicts[2]);
+    part(out, b" truncated ", verdicts[3]);
+}
+
+// What the last line of the cases says: how many there are of each verdict, how many records they have, and how many differ.
+#[derive(Drop)]
+struct Tally {
+    verdicts: [u64; 4],
+    records: u64,
+    differences: u64,
+}
+
+impl Tally {
+    // One more case, with the number of records that it has.
+    fn count(&mut self, theirs: &[u8; 69]) {
+        let v = usize::from(theirs[0] % 4);
+        self.verdicts[v] = self.verdicts[v].wrapping_add(1);
+        let records = pair(theirs[63], theirs[64]) as u64;
+        self.records = self.records.wrapping_add(records);
+    }
+
+    fn differs(&mut self, rt: &HostRuntime, case: usize) -> Result<()> {
+        let mut out: Text<64> = Text::new();
+        part(&mut out, b"case ", case as u64);
+        out.put(b" differs\n");
+        out.write(rt)?;
+        self.differences = self.differences.wrapping_add(1);
+        Ok(())
+    }
+
+    fn print(&self, rt: &HostRuntime, cases: usize) -> Result<()> {
+        let mut out: Text<256> = Text::new();
+        part(&mut out, b"cases ", cases as u64);
+        verdicts_line(&mut out, &self.verdicts);
+        part(&mut out, b" records ", self.records);
+        part(&mut out, b" differences ", self.differences);
+        out.put(b"\n");
+        out.write(rt)
+    }
 }
 
 // The answer of a slice.
 fn answered(rt: &HostRuntime, answer: Answer) -> Result<()> {
-    let mut out = [0u8; 128];
-    let n = first_line(&mut out, 0, answer);
-    write(rt, &out, n)
+    let mut out: Text<128> = Text::new();
+    first_line(&mut out, answer);
+    out.write(rt)
 }
 
 // The bits of the slots of a block.
-fn bits_of_block(out: &mut [u8], at: usize, bits: [u16; 7]) -> usize {
-    let mut end = at;
-    let mut slot = 0;
-    while slot < 7 {
-        end = part(out, end, b" ", bits[slot] as u64);
-        slot += 1;
+fn bits_of_block<const N: usize>(out: &mut Text<N>, bits: [u16; 7]) {
+    for n in bits {
+        part(out, b" ", u64::from(n));
     }
-    end
 }
 
 // The bits of the slots of a frame, block by block.
 fn slot_bits(rt: &HostRuntime, blocks: [SlotBits; 6]) -> Result<()> {
-    let mut out = [0u8; 320];
-    let mut at = put(&mut out, 0, b"bits");
-    let mut block = 0;
-    while block < 6 {
-        let of_block = blocks[block];
-        let bits = of_block.bits;
-        at = bits_of_block(&mut out, at, bits);
-        block += 1;
+    let mut out: Text<320> = Text::new();
+    out.put(b"bits");
+    for block in blocks {
+        bits_of_block(&mut out, block.bits);
     }
-    let at = put(&mut out, at, b"\n");
-    write(rt, &out, at)
+    out.put(b"\n");
+    out.write(rt)
 }
 
 // Number, place and count of a slice that is refused; the bits of the slots of one that is accepted.
 fn told(rt: &HostRuntime, answer: Answer) -> Result<()> {
-    let verdict = answer.verdict;
-    let frame = answer.frame;
-    match verdict {
-        Verdict::Accepted => {
-            let blocks = frame.slot_bits;
-            slot_bits(rt, blocks)
-        }
+    match answer.verdict {
+        Verdict::Accepted => slot_bits(rt, answer.frame.slot_bits),
         Verdict::Refused(_, _, _) => answered(rt, answer),
     }
 }
 
-fn one(rt: &HostRuntime, t: Tally, case: usize) -> Result<Tally> {
-    let n = length(input_pair(rt)?);
-    let bytes = slice(rt, n)?;
+fn one(rt: &HostRuntime, t: &mut Tally, case: usize) -> Result<()> {
+    let src = input_slice(rt)?;
     let theirs = answer(rt)?;
-    let t = counted(t, theirs);
-    let r = records_of(&bytes[..n]);
+    t.count(&theirs);
+    let r = records_of(src.bytes());
     told(rt, r.answer)?;
-    if same(r, theirs) {
-        return Ok(t);
+    if same(&r, &theirs) {
+        Ok(())
+    } else {
+        t.differs(rt, case)
     }
-    differs(rt, t, case)
-}
-
-fn verdicts_line(out: &mut [u8], at: usize, verdicts: [u64; 4]) -> usize {
-    let at = part(out, at, b" accepted ", verdicts[0]);
-    let at = part(out, at, b" invalid ", verdicts[1]);
-    let at = part(out, at, b" unsupported ", verdicts[2]);
-    part(out, at, b" truncated ", verdicts[3])
-}
-
-fn print_tally(rt: &HostRuntime, t: Tally, cases: usize) -> Result<()> {
-    let mut out = [0u8; 256];
-    let at = part(&mut out, 0, b"cases ", cases as u64);
-    let verdicts = t.verdicts;
-    let at = verdicts_line(&mut out, at, verdicts);
-    let at = part(&mut out, at, b" records ", t.records);
-    let at = part(&mut out, at, b" differences ", t.differences);
-    let at = put(&mut out, at, b"\n");
-    write(rt, &out, at)
 }
 
 fn replay_all(rt: &HostRuntime) -> Result<()> {
@@ -150,38 +129,31 @@ fn replay_all(rt: &HostRuntime) -> Result<()> {
         records: 0,
         differences: 0,
     };
-    let mut case = 0;
-    while case < cases {
-        t = one(rt, t, case)?;
-        case += 1;
+    for case in 0..cases {
+        one(rt, &mut t, case)?;
     }
-    print_tally(rt, t, cases)
+    t.print(rt, cases)
 }
 
 // The answer of a slice, with its records or without.
 fn read(rt: &HostRuntime, listed: usize, src: &[u8]) -> Result<()> {
     let r = records_of(src);
     if listed == 1 {
-        let text = text_of(r);
-        let bytes = text.bytes;
-        return write(rt, &bytes, text.size);
+        return text_of(r).write(rt);
     }
     answered(rt, r.answer)
 }
 
 fn further(rt: &HostRuntime) -> Result<()> {
     let listed = input_pair(rt)?;
-    let n = length(input_pair(rt)?);
-    let bytes = slice(rt, n)?;
-    read(rt, listed, &bytes[..n])
+    let src = input_slice(rt)?;
+    read(rt, listed, src.bytes())
 }
 
 fn answer_all(rt: &HostRuntime) -> Result<()> {
     let slices = input_pair(rt)?;
-    let mut i = 0;
-    while i < slices {
+    for _ in 0..slices {
         further(rt)?;
-        i += 1;
     }
     Ok(())
 }

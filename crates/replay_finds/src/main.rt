@@ -6,16 +6,16 @@
 // As a start or an allowance 65,535 stands for the greatest number.
 #![tactic(auto)]
 
-ghost use Rattle.std.specs.Prelude.{◌≤◌};
+ghost use Rattle.std.specs.Prelude.{◌≤◌, IfOk};
 
 use answer::Answer;
-use ingest::cases::{input_pair, length, slice};
+use ingest::cases::{Slice, input_pair, input_slice};
 use listing::{Records, first_line};
-use print::{number, signed, signed_byte};
+use print::Text;
 use search::{Found, find};
 use std::io::Result;
 
-// The rooms of a case.
+// The rooms of a case, none of more than 2,048 entries.
 #[derive(Drop)]
 struct Rooms {
     names: usize,
@@ -24,14 +24,44 @@ struct Rooms {
     firsts: usize,
     widths: usize,
     values: usize,
+    ghost names_within: { names ≤ 2048 },
+    ghost blocks_within: { blocks ≤ 2048 },
+    ghost indexes_within: { indexes ≤ 2048 },
+    ghost firsts_within: { firsts ≤ 2048 },
+    ghost widths_within: { widths ≤ 2048 },
+    ghost values_within: { values ≤ 2048 },
 }
 
-fn room(n: usize) -> usize
-    ensures { result ≤ 2048 }
+fn input_room(rt: &HostRuntime) -> Result<usize>
+    ensures { IfOk result (λ n. n ≤ 2048) }
 {
-    if n < 2048 { n } else { 2048 }
+    Ok(input_pair(rt)?.min(2048))
 }
 
+impl Rooms {
+    fn input(rt: &HostRuntime) -> Result<Rooms> {
+        Ok(Rooms {
+            names: input_room(rt)?,
+            blocks: input_room(rt)?,
+            indexes: input_room(rt)?,
+            firsts: input_room(rt)?,
+            widths: input_room(rt)?,
+            values: input_room(rt)?,
+        })
+    }
+}
+
+// A case: how many entries are printed, the rooms, where the search starts and how many positions it may try, and the capture.
+#[derive(Drop)]
+struct Case {
+    listed: usize,
+    rooms: Rooms,
+    start: usize,
+    most: usize,
+    capture: Slice,
+}
+
+// As a start or an allowance.
 fn greatest(n: usize) -> usize {
     if n == 65535 { usize::MAX } else { n }
 }
@@ -45,124 +75,88 @@ fn line(
     index: i16,
     value: u32,
 ) -> Result<()> {
-    let mut out = [0u8; 64];
-    let at = number(&mut out, 0, first as u64, b' ');
-    let at = number(&mut out, at, width as u64, b' ');
-    let at = number(&mut out, at, name as u64, b' ');
-    let at = signed_byte(&mut out, at, block, b' ');
-    let at = signed(&mut out, at, index, b' ');
-    let at = number(&mut out, at, value as u64, b'\n');
-    print::write(rt, &out, at)
+    let mut out: Text<64> = Text::new();
+    out.number(first as u64, b' ');
+    out.number(width as u64, b' ');
+    out.number(name as u64, b' ');
+    out.signed(block as i16, b' ');
+    out.signed(index, b' ');
+    out.number(value as u64, b'\n');
+    out.write(rt)
 }
 
 fn lines(rt: &HostRuntime, r: Records, listed: usize) -> Result<()> {
-    let mut i = 0;
-    while i < 2048 {
-        if i < listed {
-            line(
-                rt,
-                r.firsts[i],
-                r.widths[i],
-                r.names[i],
-                r.blocks[i],
-                r.indexes[i],
-                r.values[i],
-            )?;
-        }
-        i += 1;
+    for i in 0..listed.min(2048) {
+        line(
+            rt,
+            r.firsts[i],
+            r.widths[i],
+            r.names[i],
+            r.blocks[i],
+            r.indexes[i],
+            r.values[i],
+        )?;
     }
     Ok(())
 }
 
 fn tell(rt: &HostRuntime, answer: Answer, position: usize, tried: usize) -> Result<()> {
-    let mut out = [0u8; 256];
-    let at = first_line(&mut out, 0, answer);
-    let at = number(&mut out, at, position as u64, b' ');
-    let at = number(&mut out, at, tried as u64, b'\n');
-    print::write(rt, &out, at)
+    let mut out: Text<256> = Text::new();
+    first_line(&mut out, answer);
+    out.number(position as u64, b' ');
+    out.number(tried as u64, b'\n');
+    out.write(rt)
 }
 
-fn case(
-    rt: &HostRuntime,
-    capture: &[u8],
-    rooms: Rooms,
-    start: usize,
-    most: usize,
-    listed: usize,
-) -> Result<()> {
-    let mut names: [u8; 2048] = [0; 2048];
-    let mut blocks: [i8; 2048] = [0; 2048];
-    let mut indexes: [i16; 2048] = [0; 2048];
-    let mut firsts: [u16; 2048] = [0; 2048];
-    let mut widths: [u16; 2048] = [0; 2048];
-    let mut values: [u32; 2048] = [0; 2048];
-    let a = room(rooms.names);
-    let b = room(rooms.blocks);
-    let c = room(rooms.indexes);
-    let d = room(rooms.firsts);
-    let e = room(rooms.widths);
-    let f = room(rooms.values);
-    let found = find(
-        capture,
-        &mut names[..a],
-        &mut blocks[..b],
-        &mut indexes[..c],
-        &mut firsts[..d],
-        &mut widths[..e],
-        &mut values[..f],
-        start,
-        most,
-    );
-    let answer = found.answer;
-    tell(rt, answer, found.position, found.tried)?;
-    lines(
-        rt,
-        Records {
-            answer: answer,
-            names: names,
-            blocks: blocks,
-            indexes: indexes,
-            firsts: firsts,
-            widths: widths,
-            values: values,
-        },
-        listed,
-    )
-}
+impl Case {
+    fn input(rt: &HostRuntime) -> Result<Case> {
+        Ok(Case {
+            listed: input_pair(rt)?,
+            rooms: Rooms::input(rt)?,
+            start: greatest(input_pair(rt)?),
+            most: greatest(input_pair(rt)?),
+            capture: input_slice(rt)?,
+        })
+    }
 
-fn input_rooms(rt: &HostRuntime) -> Result<Rooms> {
-    let names = input_pair(rt)?;
-    let blocks = input_pair(rt)?;
-    let indexes = input_pair(rt)?;
-    let firsts = input_pair(rt)?;
-    let widths = input_pair(rt)?;
-    let values = input_pair(rt)?;
-    Ok(Rooms {
-        names: names,
-        blocks: blocks,
-        indexes: indexes,
-        firsts: firsts,
-        widths: widths,
-        values: values,
-    })
-}
-
-fn one(rt: &HostRuntime) -> Result<()> {
-    let listed = input_pair(rt)?;
-    let rooms = input_rooms(rt)?;
-    let start = greatest(input_pair(rt)?);
-    let most = greatest(input_pair(rt)?);
-    let n = length(input_pair(rt)?);
-    let bytes = slice(rt, n)?;
-    case(rt, &bytes[..n], rooms, start, most, listed)
+    fn tell(&self, rt: &HostRuntime) -> Result<()> {
+        let mut names: [u8; 2048] = [0; 2048];
+        let mut blocks: [i8; 2048] = [0; 2048];
+        let mut indexes: [i16; 2048] = [0; 2048];
+        let mut firsts: [u16; 2048] = [0; 2048];
+        let mut widths: [u16; 2048] = [0; 2048];
+        let mut values: [u32; 2048] = [0; 2048];
+        let rooms = &self.rooms;
+        let found = find(
+            self.capture.bytes(),
+            &mut names[..rooms.names],
+            &mut blocks[..rooms.blocks],
+            &mut indexes[..rooms.indexes],
+            &mut firsts[..rooms.firsts],
+            &mut widths[..rooms.widths],
+            &mut values[..rooms.values],
+            self.start,
+            self.most,
+        );
+        let answer = found.answer;
+        tell(rt, answer, found.position, found.tried)?;
+        let records = Records {
+            answer,
+            names,
+            blocks,
+            indexes,
+            firsts,
+            widths,
+            values,
+        };
+        lines(rt, records, self.listed)
+    }
 }
 
 fn main(rt: HostRuntime) -> Result<()> {
     let cases = input_pair(&rt)?;
-    let mut i = 0;
-    while i < cases {
-        one(&rt)?;
-        i += 1;
+    for _ in 0..cases {
+        Case::input(&rt)?.tell(&rt)?;
     }
     Ok(())
 }

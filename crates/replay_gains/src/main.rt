@@ -3,17 +3,9 @@
 // Standard input, all numbers of two bytes, high byte first: how many cases there are; of each case the room for records, the length of the slice, and the slice.
 #![tactic(auto)]
 
-ghost use Rattle.std.specs.Prelude.{◌≤◌};
-
 use gain_range::{FrameGains, gain_range};
-use ingest::cases::{input_pair, length, slice};
+use ingest::cases::{input_pair, input_slice};
 use std::io::Result;
-
-fn room_of(room: usize) -> usize
-    ensures { result ≤ 2048 }
-{
-    if room < 2048 { room } else { 2048 }
-}
 
 fn gains_of(src: &[u8], room: usize) -> FrameGains {
     let mut names: [u8; 2048] = [0; 2048];
@@ -22,7 +14,7 @@ fn gains_of(src: &[u8], room: usize) -> FrameGains {
     let mut firsts: [u16; 2048] = [0; 2048];
     let mut widths: [u16; 2048] = [0; 2048];
     let mut values: [u32; 2048] = [0; 2048];
-    let n = room_of(room);
+    let n = room.min(2048);
     gain_range(
         src,
         &mut names[..n],
@@ -36,17 +28,14 @@ fn gains_of(src: &[u8], room: usize) -> FrameGains {
 
 fn one(rt: &HostRuntime) -> Result<()> {
     let room = input_pair(rt)?;
-    let n = length(input_pair(rt)?);
-    let bytes = slice(rt, n)?;
-    gain_lines::tell(rt, gains_of(&bytes[..n], room))
+    let src = input_slice(rt)?;
+    gain_lines::tell(rt, gains_of(src.bytes(), room))
 }
 
 fn main(rt: HostRuntime) -> Result<()> {
     let cases = input_pair(&rt)?;
-    let mut i = 0;
-    while i < cases {
+    for _ in 0..cases {
         one(&rt)?;
-        i += 1;
     }
     Ok(())
 }

@@ -5,10 +5,10 @@
 // listed and else 0, how many places and how many values are lent, 20 places, 20 values, the length of the slice, and the slice.
 #![tactic(auto)]
 
-use ingest::cases::{input_pair, length, slice};
+use ingest::cases::{Slice, input_pair, input_slice};
 use listing::{Records, first_line, text_of};
 use mastering::set_words;
-use print::write;
+use print::Text;
 use std::io::Result;
 
 // The words at the places, set, with room for 2,048 records.
@@ -43,13 +43,11 @@ fn set(frame: &mut [u8], places: &[usize], words: &[u32]) -> Records {
 
 fn tell(rt: &HostRuntime, listed: usize, r: Records) -> Result<()> {
     if listed == 1 {
-        let text = text_of(r);
-        let bytes = text.bytes;
-        return write(rt, &bytes, text.size);
+        return text_of(r).write(rt);
     }
-    let mut out = [0u8; 128];
-    let n = first_line(&mut out, 0, r.answer);
-    write(rt, &out, n)
+    let mut out: Text<128> = Text::new();
+    first_line(&mut out, r.answer);
+    out.write(rt)
 }
 
 fn case(
@@ -60,7 +58,7 @@ fn case(
     frame: &mut [u8],
 ) -> Result<()> {
     tell(rt, listed, set(frame, places, words))?;
-    write(rt, frame, frame.len())
+    rt.write_all(frame)
 }
 
 fn twenty_places(rt: &HostRuntime) -> Result<[usize; 20]> {
@@ -85,14 +83,13 @@ fn one(rt: &HostRuntime) -> Result<()> {
     let beside = input_pair(rt)?.min(20);
     let places = twenty_places(rt)?;
     let words = twenty_words(rt)?;
-    let n = length(input_pair(rt)?);
-    let mut bytes = slice(rt, n)?;
+    let Slice { mut buffer, size } = input_slice(rt)?;
     case(
         rt,
         listed,
         &places[..lent],
         &words[..beside],
-        &mut bytes[..n],
+        &mut buffer[..size],
     )
 }
 

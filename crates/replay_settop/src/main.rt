@@ -3,19 +3,11 @@
 // Standard input, all numbers of two bytes, high byte first: how many cases there are; of each case the room for records, the length of the slice, and the slice.
 #![tactic(auto)]
 
-ghost use Rattle.std.specs.Prelude.{◌≤◌};
-
 use answer::Answer;
-use ingest::cases::{input_pair, length, slice};
+use ingest::cases::{input_pair, input_slice};
 use listing::{Records, first_line, text_of};
-use print::write;
+use print::Text;
 use std::io::Result;
-
-fn room_of(room: usize) -> usize
-    ensures { result ≤ 2048 }
-{
-    if room < 2048 { room } else { 2048 }
-}
 
 // A slice read at the full entry.
 fn full(src: &[u8], room: usize) -> Answer {
@@ -25,7 +17,7 @@ fn full(src: &[u8], room: usize) -> Answer {
     let mut firsts: [u16; 2048] = [0; 2048];
     let mut widths: [u16; 2048] = [0; 2048];
     let mut values: [u32; 2048] = [0; 2048];
-    let n = room_of(room);
+    let n = room.min(2048);
     eac3::parse(
         src,
         &mut names[..n],
@@ -45,7 +37,7 @@ fn settop(src: &[u8], room: usize) -> Records {
     let mut firsts: [u16; 2048] = [0; 2048];
     let mut widths: [u16; 2048] = [0; 2048];
     let mut values: [u32; 2048] = [0; 2048];
-    let n = room_of(room);
+    let n = room.min(2048);
     let answer = eac3::parse_settop(
         src,
         &mut names[..n],
@@ -56,46 +48,37 @@ fn settop(src: &[u8], room: usize) -> Records {
         &mut values,
     );
     Records {
-        answer: answer,
-        names: names,
-        blocks: blocks,
-        indexes: indexes,
-        firsts: firsts,
-        widths: widths,
-        values: values,
+        answer,
+        names,
+        blocks,
+        indexes,
+        firsts,
+        widths,
+        values,
     }
 }
 
 fn answered(rt: &HostRuntime, answer: Answer) -> Result<()> {
-    let mut out = [0u8; 128];
-    let n = first_line(&mut out, 0, answer);
-    write(rt, &out, n)
-}
-
-fn listed(rt: &HostRuntime, r: Records) -> Result<()> {
-    let text = text_of(r);
-    let bytes = text.bytes;
-    write(rt, &bytes, text.size)
+    let mut out: Text<128> = Text::new();
+    first_line(&mut out, answer);
+    out.write(rt)
 }
 
 fn case(rt: &HostRuntime, room: usize, src: &[u8]) -> Result<()> {
     answered(rt, full(src, room))?;
-    listed(rt, settop(src, room))
+    text_of(settop(src, room)).write(rt)
 }
 
 fn one(rt: &HostRuntime) -> Result<()> {
     let room = input_pair(rt)?;
-    let n = length(input_pair(rt)?);
-    let bytes = slice(rt, n)?;
-    case(rt, room, &bytes[..n])
+    let src = input_slice(rt)?;
+    case(rt, room, src.bytes())
 }
 
 fn main(rt: HostRuntime) -> Result<()> {
     let cases = input_pair(&rt)?;
-    let mut i = 0;
-    while i < cases {
+    for _ in 0..cases {
         one(&rt)?;
-        i += 1;
     }
     Ok(())
 }

@@ -5,10 +5,10 @@
 // listed and else 0, the place, the value, the length of the slice, and the slice.
 #![tactic(auto)]
 
-use ingest::cases::{input_pair, length, slice};
+use ingest::cases::{Slice, input_pair, input_slice};
 use listing::{Records, first_line, text_of};
 use mastering::set_word;
-use print::write;
+use print::Text;
 use std::io::Result;
 
 // The word at a place, set, with room for 2,048 records.
@@ -43,27 +43,24 @@ fn set(frame: &mut [u8], place: usize, value: u32) -> Records {
 
 fn tell(rt: &HostRuntime, listed: usize, r: Records) -> Result<()> {
     if listed == 1 {
-        let text = text_of(r);
-        let bytes = text.bytes;
-        return write(rt, &bytes, text.size);
+        return text_of(r).write(rt);
     }
-    let mut out = [0u8; 128];
-    let n = first_line(&mut out, 0, r.answer);
-    write(rt, &out, n)
+    let mut out: Text<128> = Text::new();
+    first_line(&mut out, r.answer);
+    out.write(rt)
 }
 
 fn case(rt: &HostRuntime, listed: usize, place: usize, value: u32, frame: &mut [u8]) -> Result<()> {
     tell(rt, listed, set(frame, place, value))?;
-    write(rt, frame, frame.len())
+    rt.write_all(frame)
 }
 
 fn one(rt: &HostRuntime) -> Result<()> {
     let listed = input_pair(rt)?;
     let place = input_pair(rt)?;
     let value = input_pair(rt)?;
-    let n = length(input_pair(rt)?);
-    let mut bytes = slice(rt, n)?;
-    case(rt, listed, place, value as u32, &mut bytes[..n])
+    let Slice { mut buffer, size } = input_slice(rt)?;
+    case(rt, listed, place, value as u32, &mut buffer[..size])
 }
 
 fn main(rt: HostRuntime) -> Result<()> {

@@ -10,7 +10,7 @@ use answer::{Answer, Verdict};
 use ingest::records_of;
 use listing::Records;
 use mastering::set_words;
-use print::{decimal, number, put};
+use print::Text;
 use std::env::{Env, FillError};
 use std::io::Result;
 use word_items::{Unplaced, last, name_of, number_of, place_of};
@@ -192,13 +192,17 @@ fn items_of(
     })
 }
 
+fn tell<const N: usize>(rt: &HostRuntime, text: &Text<N>) -> Result<()> {
+    rt.stderr().write_all(text.as_bytes())
+}
+
 // Which item is faulty, and why.
 fn tell_item(rt: &HostRuntime, faulty: Faulty) -> Result<()> {
-    let mut out = [0u8; 128];
-    let at = put(&mut out, 0, b"item ");
-    let at = number(&mut out, at, faulty.ordinal as u64, b' ');
-    let at = put(&mut out, at, faulty.fault.why());
-    rt.stderr().write_all(&out[..at.min(128)])
+    let mut out: Text<128> = Text::new();
+    out.put(b"item ");
+    out.number(faulty.ordinal as u64, b' ');
+    out.put(faulty.fault.why());
+    tell(rt, &out)
 }
 
 // What a refusal means.
@@ -241,19 +245,19 @@ fn why(refusal: u8) -> &'static [u8] {
 
 // A refusal: number, bit place, and what it means.
 fn tell_refusal(rt: &HostRuntime, refusal: u8, place: u64) -> Result<()> {
-    let mut out = [0u8; 128];
-    let at = put(&mut out, 0, b"refused ");
-    let at = number(&mut out, at, refusal as u64, b' ');
-    let at = put(&mut out, at, b"at bit ");
-    let at = decimal(&mut out, at, place);
-    let at = put(&mut out, at, why(refusal));
-    rt.stderr().write_all(&out[..at.min(128)])
+    let mut out: Text<128> = Text::new();
+    out.put(b"refused ");
+    out.number(refusal as u64, b' ');
+    out.put(b"at bit ");
+    out.decimal(place);
+    out.put(why(refusal));
+    tell(rt, &out)
 }
 
 fn pass_some(rt: &HostRuntime) -> Result<bool> {
     let mut bytes = [0u8; 4096];
     let n = print::read_full(&mut rt.stdin(), &mut bytes)?;
-    print::write(rt, &bytes, n)?;
+    rt.write_all(&bytes[..n])?;
     Ok(n == 4096)
 }
 
@@ -271,7 +275,7 @@ fn pass_rest(rt: &HostRuntime) -> Result<()> {
 fn answered(rt: &HostRuntime, answer: Answer, bytes: &[u8]) -> Result<()> {
     match answer.verdict {
         Verdict::Accepted => {
-            print::write(rt, bytes, bytes.len())?;
+            rt.write_all(bytes)?;
             pass_rest(rt)
         }
         Verdict::Refused(refusal, place, _) => tell_refusal(rt, refusal, place.0 as u64),

@@ -17,39 +17,38 @@ use Rattle.answer.specs.declared.Verdict.{Verdict}
 use Rattle.answer.specs.declared.Verdict.TheVariants.{Accepted, Refused}
 use Rattle.listing.proofs.Laws.{first_short}
 use Rattle.slot_table.specs.SlotTable.{eight_of, slot_sum, share_of, cell_of, full_of, line_of, row_of, rows_of, sums_of, table_of, text_by, text_of}
-use Rattle.slot_table.specs.declared.Shows.{Shows}
-use Rattle.slot_table.specs.declared.Shows.TheVariants.{Bits, Share}
+use Rattle.std.specs.Prelude.{Option, Some, None}
 
-cell-short : (shows : Shows) (n : ℕ) → length (cell_of shows n) ≤ 46
+cell-short : (of : Option ByteCount) (n : ℕ) → length (cell_of of n) ≤ 46
 unfolding cell_of bytes
-cell-short Bits n = let d = few 20 n in simp (length-append, length-replicate) (omega arith)
-cell-short (Share frame) n =
+cell-short None n = let d = few 20 n in simp (length-append, length-replicate) (omega arith)
+cell-short (Some frame) n =
     let d = few 20 (share_of frame.0 n / 10) in
     let e = few 20 (share_of frame.0 n % 10) in
     simp (length-append, length-replicate) (omega arith)
 
-full-short : (shows : Shows) (x : List ℕ) (ch : ℕ) → length (full_of shows x ch) ≤ 46 * ch
+full-short : (of : Option ByteCount) (x : List ℕ) (ch : ℕ) → length (full_of of x ch) ≤ 46 * ch
 unfolding full_of
-full-short shows x zero = omega arith
-full-short shows x (suc ch) =
-    let h = full-short shows x ch in
-    let k = cell-short shows (get_or x ch 0) in
+full-short of x zero = omega arith
+full-short of x (suc ch) =
+    let h = full-short of x ch in
+    let k = cell-short of (get_or x ch 0) in
     rw length-append (omega arith)
 
-line-short : (shows : Shows) (x : List ℕ) (channels : ℕ) → channels ≤ 5 → length (line_of shows x channels) ≤ 369
+line-short : (of : Option ByteCount) (x : List ℕ) (channels : ℕ) → channels ≤ 5 → length (line_of of x channels) ≤ 369
 unfolding line_of
-line-short shows x channels c =
-    let h = full-short shows x channels in
-    let i = cell-short shows (get_or x CPL 0) in
-    let j = cell-short shows (get_or x LFE 0) in
-    let k = cell-short shows (get_or x 7 0) in
+line-short of x channels c =
+    let h = full-short of x channels in
+    let i = cell-short of (get_or x CPL 0) in
+    let j = cell-short of (get_or x LFE 0) in
+    let k = cell-short of (get_or x 7 0) in
     simp length-append (omega arith)
 
 module _ (blocks : List SlotBits) (channels : ℕ) (c : channels ≤ 5) where
   row-short : (b : ℕ) → length (row_of blocks channels b) ≤ 394
   row-short b =
       let d = few 20 b in
-      let h = line-short Bits (eight_of (bits_in blocks b)) channels c in
+      let h = line-short None (eight_of (bits_in blocks b)) channels c in
       simp (length-append, length-replicate) (omega arith)
 
   rows_short : (b : ℕ) → length (rows_of blocks channels b) ≤ 394 * b
@@ -63,8 +62,8 @@ module _ (blocks : List SlotBits) (channels : ℕ) (c : channels ≤ 5) where
   sums-short : (frame : ByteCount) → length (sums_of blocks channels frame) ≤ 748
   unfolding sums_of bytes
   sums-short frame =
-      let s = line-short Bits (eight_of (slot_sum blocks)) channels c in
-      let t = line-short (Share frame) (eight_of (slot_sum blocks)) channels c in
+      let s = line-short None (eight_of (slot_sum blocks)) channels c in
+      let t = line-short (Some frame) (eight_of (slot_sum blocks)) channels c in
       simp length-append (omega arith)
 
 table-short : (f : Frame) → length (table_of f) ≤ 3174

@@ -1,32 +1,41 @@
 -- Laws of the table's parts. Assumes nothing.
-use mathlib.Core.Path.{◌≡◌, refl, sym, ap}
-use mathlib.Core.List.{List, [], ◌∷◌, ◌++◌}
-use Prim.Native.Nat.{ℕ, ◌+◌, min}
-use native.Mathlib.Numerals.{add-one}
-use lib.ListN.{get_or}
 use Rattle.bits.specs.declared.ByteCount.{ByteCount}
+use Rattle.std.proofs.Common.{◌≡◌, ◌<◌, ◌+◌, ◌∙◌, ℕ, List, [], ◌∷◌, ◌++◌, min, refl, ap, get_or, length, take, drop, sym, length-drop, length-take-le, get_or-drop, get_or-take, arith}
 use Rattle.names.specs.Spelling.{bytes}
-use Rattle.print.specs.Text.{Added}
-use Rattle.print.proofs.Adding.{◌then◌, meant}
+use Rattle.answer.specs.Answer.{bits_in}
+use Rattle.sideinfo.specs.Steps.{sum_of}
+use Rattle.slot_table.proofs.Eight.{eight}
 use Rattle.columns.specs.Columns.{heading_of, channels_of}
 use Rattle.answer.specs.declared.Frame.{Frame}
 use Rattle.answer.specs.declared.SlotBits.{SlotBits}
-use Rattle.slot_table.specs.SlotTable.{eight_of, slot_sum, cell_of, full_of, line_of, rows_of, sums_of, table_of}
-use Rattle.slot_table.specs.declared.Shows.{Shows}
-use Rattle.slot_table.specs.declared.Shows.TheVariants.{Bits, Share}
-
--- one channel more
-pub one_more : {old mid new : List ℕ} {at n size : ℕ} (shows : Shows) (x : List ℕ) (ch : ℕ) → Added old at (full_of shows x ch) mid n → Added mid n (cell_of shows (get_or x ch 0)) new size
-    → Added old at (full_of shows x (ch + 1)) new size
-unfolding full_of
-one_more shows x ch p q = meant (sym (ap (full_of shows x) (add-one ch))) (p then q)
+use Rattle.slot_table.specs.SlotTable.{bits_of, eight_of, slot_sum, line_of, rows_of, sums_of, table_of}
+use Rattle.std.specs.Prelude.{Some, None}
 
 -- the parts of the table are those of the frame
 pub as_sums : (blocks : List SlotBits) (channels : ℕ) (frame : ByteCount) {all : List ℕ} → all ≡ eight_of (slot_sum blocks)
-    → bytes "  sum" ++ line_of Bits all channels ++ bytes "    %" ++ line_of (Share frame) all channels ≡ sums_of blocks channels frame
+    → bytes "  sum" ++ line_of None all channels ++ bytes "    %" ++ line_of (Some frame) all channels ≡ sums_of blocks channels frame
 unfolding sums_of
 as_sums blocks channels frame e = rw e refl
 
 pub as-table : (f : Frame) {n blocks : ℕ} → n ≡ channels_of f.acmod → blocks ≡ min f.numblks 6
     → heading_of f.acmod ++ (bytes "    sum" ++ (10 ∷ [])) ++ rows_of f.slot_bits n blocks ++ sums_of f.slot_bits n f.bytes ≡ table_of f
 as-table f e d = rw (e, d) refl
+
+-- a list of one block
+one_bits : (blocks : List SlotBits) (b slot : ℕ) → b < length blocks → bits_of (take 1 (drop b blocks)) slot ≡ bits_in blocks b slot
+unfolding sum_of
+one_bits blocks b slot h =
+    let part = take 1 (drop b blocks) in
+    let none : SlotBits = record { bits = [] } in
+    let long : length part ≡ 1 = length-take-le 1 (drop b blocks) (let d = length-drop b blocks in omega arith) in
+    let place : b + 0 ≡ b = omega arith in
+    let first : get_or part 0 none ≡ get_or blocks b none = get_or-take 1 (drop b blocks) 0 none (omega arith) ∙ get_or-drop b blocks 0 none ∙ ap (λ i. get_or blocks i none) place in
+    let one : sum_of (λ i. bits_in part i slot) 1 ≡ bits_in part 0 slot = omega arith in
+    ap (sum_of (λ i. bits_in part i slot)) long ∙ one ∙ ap (λ s. get_or s.bits slot 0) first
+
+pub one_block : (blocks : List SlotBits) (b k : ℕ) → b < length blocks → k ≡ 1 → eight_of (bits_of (take k (drop b blocks))) ≡ eight_of (bits_in blocks b)
+one_block blocks b k h e =
+    let f : (slot : ℕ) → bits_of (take 1 (drop b blocks)) slot ≡ bits_in blocks b slot = λ slot. one_bits blocks b slot h in
+    ap (λ k. eight_of (bits_of (take k (drop b blocks)))) e
+    ∙ sym (eight (bits_of (take 1 (drop b blocks))) refl refl refl refl refl refl refl)
+    ∙ eight (bits_in blocks b) (f 0) (f 1) (f 2) (f 3) (f 4) (f 5) (f 6)

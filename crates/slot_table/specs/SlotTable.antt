@@ -1,6 +1,6 @@
 -- The bits of the slots of a frame as a table of text: cells of seven bytes, a line for each block, one for the sums over the blocks, and one for
 -- the share of the frame that each slot has, in per cent. The last column has the sum of its line.
-use Rattle.std.specs.Prelude.{cond, List, [], ◌∷◌, ◌++◌, ℕ, zero, suc, ◌+◌, ◌*◌, ◌/◌, ◌%◌, min, eqb, get_or}
+use Rattle.std.specs.Prelude.{cond, List, [], ◌∷◌, ◌++◌, Option, Some, None, ℕ, zero, suc, ◌+◌, ◌*◌, ◌/◌, ◌%◌, min, eqb, get_or, length}
 use Rattle.bits.specs.declared.ByteCount.{ByteCount}
 use Rattle.names.specs.Spelling.{bytes}
 use Rattle.slots.specs.Slots.{CPL, LFE}
@@ -14,10 +14,11 @@ use Rattle.answer.specs.declared.SlotBits.{SlotBits}
 use Rattle.answer.specs.declared.Verdict.{Verdict}
 use Rattle.answer.specs.declared.Verdict.TheVariants.{Accepted, Refused}
 use Rattle.listing.specs.Listing.{first_line}
-use Rattle.slot_table.specs.declared.Shows.{Shows}
-use Rattle.slot_table.specs.declared.Shows.TheVariants.{Bits, Share}
 
--- the bits of a slot in all blocks
+-- the bits of a slot in a list of blocks, and in all six
+abbrev pub bits_of : List SlotBits → ℕ → ℕ
+bits_of blocks slot = sum_of (λ b. bits_in blocks b slot) (length blocks)
+
 abbrev pub slot_sum : List SlotBits → ℕ → ℕ
 slot_sum blocks slot = sum_of (λ b. bits_in blocks b slot) 6
 
@@ -32,24 +33,24 @@ share_of frame n = cond (eqb frame 0) 0 ((1000 * n + 4 * frame) / (8 * frame))
 abbrev pub tenths_of : ℕ → List ℕ
 tenths_of n = right_of 5 (n / 10) ++ bytes "." ++ decimal_of (n % 10)
 
--- n bits as a cell: their number, or their share
-unfoldable pub cell_of : Shows → ℕ → List ℕ
-cell_of Bits n = right_of 7 n
-cell_of (Share frame) n = tenths_of (share_of frame.0 n)
+-- n bits as a cell: their number, or their share of a frame
+unfoldable pub cell_of : Option ByteCount → ℕ → List ℕ
+cell_of None n = right_of 7 n
+cell_of (Some frame) n = tenths_of (share_of frame.0 n)
 
-module _ (shows : Shows) (x : List ℕ) where
+module _ (frame : Option ByteCount) (x : List ℕ) where
   -- the first channels
   unfoldable pub full_of : ℕ → List ℕ
   full_of zero = []
-  full_of (suc ch) = full_of ch ++ cell_of shows (get_or x ch 0)
+  full_of (suc ch) = full_of ch ++ cell_of frame (get_or x ch 0)
 
   -- a line: the coupling channel, the full bandwidth channels, the LFE channel, and the sum
   unfoldable pub line_of : ℕ → List ℕ
-  line_of channels = cell_of shows (get_or x CPL 0) ++ full_of channels ++ cell_of shows (get_or x LFE 0) ++ cell_of shows (get_or x 7 0) ++ (10 ∷ [])
+  line_of channels = cell_of frame (get_or x CPL 0) ++ full_of channels ++ cell_of frame (get_or x LFE 0) ++ cell_of frame (get_or x 7 0) ++ (10 ∷ [])
 
 module _ (blocks : List SlotBits) (channels : ℕ) where
   abbrev pub row_of : ℕ → List ℕ
-  row_of b = right_of 5 b ++ line_of Bits (eight_of (bits_in blocks b)) channels
+  row_of b = right_of 5 b ++ line_of None (eight_of (bits_in blocks b)) channels
 
   -- the first blocks
   unfoldable pub rows_of : ℕ → List ℕ
@@ -60,7 +61,7 @@ module _ (blocks : List SlotBits) (channels : ℕ) where
   unfoldable pub sums_of : ByteCount → List ℕ
   sums_of frame =
       let all = eight_of (slot_sum blocks) in
-      bytes "  sum" ++ line_of Bits all channels ++ bytes "    %" ++ line_of (Share frame) all channels
+      bytes "  sum" ++ line_of None all channels ++ bytes "    %" ++ line_of (Some frame) all channels
 
 -- a frame has at most six blocks
 abbrev pub table_of : Frame → List ℕ

@@ -4,6 +4,5 @@
 fn main(rt: HostRuntime) -> std::io::Result<()> {
     let records = ingest::input(&rt)?;
     let text = slot_table::text_of(records.answer);
-    let bytes = text.bytes;
-    print::write(&rt, &bytes, text.size)
+    text.write(&rt)
 }

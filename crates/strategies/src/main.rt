@@ -3,6 +3,5 @@
 
 fn main(rt: HostRuntime) -> std::io::Result<()> {
     let text = strategy_table::text_of(ingest::input(&rt)?);
-    let bytes = text.bytes;
-    print::write(&rt, &bytes, text.size)
+    text.write(&rt)
 }

@@ -12,16 +12,19 @@ use Rattle.answer.specs.declared.Verdict.{Verdict}
 use Rattle.answer.specs.declared.Verdict.TheVariants.{Accepted, Refused}
 use Rattle.listing.specs.declared.Records.{Records}
 use Rattle.listing.proofs.Laws.{first_short}
+use Rattle.std.specs.Prelude.{Option, Some, None}
+use Rattle.strategy_table.specs.declared.grid.Strategy.{Strategy}
+use Rattle.strategy_table.specs.declared.grid.Strategy.TheVariants.{Reuse, D15, D25, D45}
 use Rattle.strategy_table.specs.Strategies.{channel_of, coupling_of, lfe_of, element_of}
-use Rattle.strategy_table.specs.Table.{cells, cell_of, full_of, row_of, rows_of, blocks_of, table_of, text_by, text_of}
+use Rattle.strategy_table.specs.Table.{cell_of, full_of, row_of, rows_of, blocks_of, table_of, text_by, text_of}
 
-cell-short : (s : ℕ) → length (cell_of s) ≤ 7
-unfolding cell_of cells bytes
-cell-short zero = omega arith
-cell-short (suc zero) = omega arith
-cell-short (suc (suc zero)) = omega arith
-cell-short (suc (suc (suc zero))) = omega arith
-cell-short (suc (suc (suc (suc s)))) = omega arith
+cell-short : (s : Option Strategy) → length (cell_of s) ≤ 7
+unfolding cell_of bytes
+cell-short (Some Reuse) = omega arith
+cell-short (Some D15) = omega arith
+cell-short (Some D25) = omega arith
+cell-short (Some D45) = omega arith
+cell-short None = omega arith
 
 few-blocks : (code : ℕ) → blocks_of code ≤ 6
 unfolding blocks_of

@@ -1,24 +1,13 @@
 -- Laws of the table's text. Assumes nothing.
-use mathlib.Core.Path.{◌≡◌, refl, sym}
+use mathlib.Core.Path.{◌≡◌, refl}
 use mathlib.Core.List.{[], ◌∷◌, ◌++◌}
-use Prim.Native.Nat.{ℕ, ◌≤◌}
-use lib.ListN.{get_or-eq_default}
+use Prim.Native.Nat.{ℕ}
 use Rattle.names.specs.Names.{acmod, numblkscod}
-use Rattle.names.specs.Spelling.{bytes}
 use Rattle.answer.specs.Answer.{count_of}
 use Rattle.listing.specs.declared.Records.{Records}
 use Rattle.columns.specs.Columns.{heading_of, channels_of}
 use Rattle.strategy_table.specs.Strategies.{element_of}
-use Rattle.strategy_table.specs.Table.{cells, cell_of, rows_of, blocks_of, table_of}
-
--- past the last that is named
-pub no_cell : (s : ℕ) → 4 ≤ s → bytes "      -" ≡ cell_of s
-unfolding cell_of cells
-no_cell s h = sym (get_or-eq_default cells (bytes "      -") {n = s} h)
-
-pub six-blocks : (code : ℕ) → 3 ≤ code → 6 ≡ blocks_of code
-unfolding blocks_of
-six-blocks code h = sym (get_or-eq_default (1 ∷ 2 ∷ 3 ∷ []) 6 {n = code} h)
+use Rattle.strategy_table.specs.Table.{rows_of, blocks_of, table_of}
 
 -- the parts of the table are those of the frame
 pub as-table : (r : Records) {n mode code ch blk : ℕ} → n ≡ count_of r.answer → mode ≡ element_of r n acmod → code ≡ element_of r n numblkscod

@@ -1,5 +1,5 @@
 -- The exponent strategies of a frame as a table of text: cells of seven bytes, a line for each block.
-use Rattle.std.specs.Prelude.{List, [], ◌∷◌, ◌++◌, ℕ, zero, suc, get_or}
+use Rattle.std.specs.Prelude.{List, [], ◌∷◌, ◌++◌, Option, Some, None, ℕ, zero, suc, get_or}
 use Rattle.names.specs.Names.{acmod, numblkscod}
 use Rattle.names.specs.Spelling.{bytes}
 use Rattle.print.specs.Text.{right_of}
@@ -9,14 +9,17 @@ use Rattle.answer.specs.declared.Verdict.{Verdict}
 use Rattle.answer.specs.declared.Verdict.TheVariants.{Accepted, Refused}
 use Rattle.listing.specs.Listing.{first_line}
 use Rattle.listing.specs.declared.Records.{Records}
+use Rattle.strategy_table.specs.declared.grid.Strategy.{Strategy}
+use Rattle.strategy_table.specs.declared.grid.Strategy.TheVariants.{Reuse, D15, D25, D45}
 use Rattle.strategy_table.specs.Strategies.{channel_of, coupling_of, lfe_of, element_of}
 
 -- a strategy; a dash stands where there is none
-unfoldable pub cells : List (List ℕ)
-cells = bytes "  reuse" ∷ bytes "    D15" ∷ bytes "    D25" ∷ bytes "    D45" ∷ []
-
-unfoldable pub cell_of : ℕ → List ℕ
-cell_of strategy = get_or cells strategy (bytes "      -")
+unfoldable pub cell_of : Option Strategy → List ℕ
+cell_of (Some Reuse) = bytes "  reuse"
+cell_of (Some D15) = bytes "    D15"
+cell_of (Some D25) = bytes "    D25"
+cell_of (Some D45) = bytes "    D45"
+cell_of None = bytes "      -"
 
 module _ (r : Records) (n : ℕ) where
   -- the first channels of a block

@@ -2,9 +2,9 @@
 // the records of each: first bit, width, name, block, index, value.
 #![tactic(auto)]
 
-use print::{number, put, signed, signed_byte};
+use print::Text;
 use std::io::Result;
-use syntax::Cursor;
+use syntax::{Cursor, Stopped};
 
 fn line(
     rt: &HostRuntime,
@@ -15,31 +15,34 @@ fn line(
     index: i16,
     value: u32,
 ) -> Result<()> {
-    let mut out = [0u8; 64];
-    let at = number(&mut out, 0, first as u64, b' ');
-    let at = number(&mut out, at, width as u64, b' ');
-    let at = number(&mut out, at, name as u64, b' ');
-    let at = signed_byte(&mut out, at, block, b' ');
-    let at = signed(&mut out, at, index, b' ');
-    let at = number(&mut out, at, value as u64, b'\n');
-    print::write(rt, &out, at)
+    let mut out: Text<64> = Text::new();
+    out.number(first as u64, b' ');
+    out.number(width as u64, b' ');
+    out.number(name as u64, b' ');
+    out.signed(block as i16, b' ');
+    out.signed(index, b' ');
+    out.number(value as u64, b'\n');
+    out.write(rt)
 }
 
-// Whether the frame was accepted, or the number of the refusal.
-fn verdict(out: &mut [u8], c: Cursor) -> usize {
-    if c.stopped {
-        let at = put(out, 0, b"refused ");
-        return number(out, at, c.number as u64, b' ');
-    }
-    put(out, 0, b"accepted ")
-}
-
-fn answer(rt: &HostRuntime, c: Cursor) -> Result<()> {
-    let mut out = [0u8; 64];
-    let at = verdict(&mut out, c);
-    let at = number(&mut out, at, c.at.0 as u64, b' ');
-    let at = number(&mut out, at, c.count as u64, b'\n');
-    print::write(rt, &out, at)
+// Whether the frame was accepted, or the number of the refusal; and how many records it has.
+fn answer(rt: &HostRuntime, read: std::result::Result<Cursor, Stopped>) -> Result<usize> {
+    let mut out: Text<64> = Text::new();
+    let (at, count) = match read {
+        Ok(cur) => {
+            out.put(b"accepted ");
+            (cur.at, cur.count)
+        }
+        Err(stopped) => {
+            out.put(b"refused ");
+            out.number(stopped.refusal.number() as u64, b' ');
+            (stopped.at, stopped.count)
+        }
+    };
+    out.number(at.0 as u64, b' ');
+    out.number(count as u64, b'\n');
+    out.write(rt)?;
+    Ok(count)
 }
 
 fn lines(
@@ -67,7 +70,7 @@ fn run(rt: &HostRuntime, frame: &[u8]) -> Result<()> {
     let mut firsts: [u16; 128] = [0; 128];
     let mut widths: [u16; 128] = [0; 128];
     let mut values: [u32; 128] = [0; 128];
-    let c = toy::parse(
+    let read = toy::parse(
         frame,
         &mut names,
         &mut blocks,
@@ -76,14 +79,15 @@ fn run(rt: &HostRuntime, frame: &[u8]) -> Result<()> {
         &mut widths,
         &mut values,
     );
-    answer(rt, c)?;
-    lines(rt, c.count, firsts, widths, names, blocks, indexes, values)
+    let count = answer(rt, read)?;
+    lines(rt, count, firsts, widths, names, blocks, indexes, values)
 }
 
 fn main(rt: HostRuntime) -> Result<()> {
     let mut input = [0u8; 4096];
     let n = print::read_full(&mut rt.stdin(), &mut input)?;
     let mut rest = &input[..n];
+    // Stays: a `while let`, since each length says how far the next one lies.
     while let Some((size, frames)) = rest.split_first() {
         let end = usize::from(*size).min(frames.len());
         run(&rt, &frames[..end])?;

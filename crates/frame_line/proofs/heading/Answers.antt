@@ -1,7 +1,10 @@
 -- There is room for it.
-use Rattle.print.proofs.Adding.{whole}
+use Rattle.names.specs.Spelling.{bytes}
+use Rattle.print.proofs.Adds.{whole}
+use Rattle.frame_line.specs.Lines.{heading_of}
 use Rattle.frame_line.proofs.Lengths.{heading-short}
 use Rattle.frame_line.proofs.heading.Goals as goal
 
 pub returns : goal.returns
-returns c = whole c.names-size.ensures heading-short
+unfolding heading_of bytes
+returns c = whole c.new-out.ensures c.put.ensures heading-short

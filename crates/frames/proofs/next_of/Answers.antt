@@ -11,5 +11,5 @@ slice_bounds-next-end c = rw length-take (omega arith)
 pub returns : goal.returns
 returns c =
     c.next.ensures
-    ∙ ap (found_in (take c.least-n.result c.args.bytes.now) (empty 32782) c.args.at) c.allowance.ensures
-    ∙ ap (λ n. found_in (take n c.args.bytes.now) (empty 32782) c.args.at (allowance_of n c.args.at c.args.ended)) c.least-n.ensures
+    ∙ ap (found_in (take c.min-n.result c.args.bytes.now) (empty 32782) c.args.at) c.allowance.ensures
+    ∙ ap (λ n. found_in (take n c.args.bytes.now) (empty 32782) c.args.at (allowance_of n c.args.at c.args.ended)) c.min-n.ensures

@@ -1,13 +1,13 @@
 -- By the verdict.
 use Rattle.names.specs.Spelling.{bytes}
-use Rattle.print.proofs.Adding.{◌then◌}
+use Rattle.print.proofs.Adds.{◌then◌}
 use Rattle.listing.specs.Listing.{first_by}
 use Rattle.listing.proofs.first_line.Goals as goal
 
 pub returns-in-Accepted : goal.returns-in-Accepted
 unfolding first_by bytes
-returns-in-Accepted c = rw c.in-Accepted.is (c.put-at.ensures then c.three.ensures)
+returns-in-Accepted g c = rw c.in-Accepted.is (c.put.ensures then c.three.ensures)
 
 pub returns-in-Refused : goal.returns-in-Refused
 unfolding first_by bytes
-returns-in-Refused c = rw c.in-Refused.is (c.put-at-in-Refused.ensures then c.three-in-Refused.ensures)
+returns-in-Refused g c = rw c.in-Refused.is (c.put-in-Refused.ensures then c.three-in-Refused.ensures)

@@ -1,22 +1,24 @@
-use mathlib.Core.Path.{◌≡◌, ap}
-use native.Mathlib.Omega.{arith}
-use mir.Syntax.{w8, w16}
-use mir.Facts.{to_z-of_z}
-use Rattle.print.proofs.Adding.{meant, nothing}
+use Rattle.std.proofs.Common.{add-one, ap, sym, ◌∷◌, [], ◌++◌, get_or, pos, w8, w16, to_z-of_z, rules, ◌∙◌, SFits}
+use Rattle.print.proofs.Signs.{widened}
+use Rattle.print.specs.Text.{signed_of}
+use Rattle.print.proofs.Adds.{◌then◌, meant, nothing}
 use Rattle.listing.specs.Listing.{lines_of}
-use Rattle.listing.proofs.Laws.{one_more}
 use Rattle.listing.proofs.lines.Goals as goal
 
 pub loop-i-init : goal.loop-i-init
 unfolding lines_of
-loop-i-init c = (omega arith, nothing _ _ (omega arith))
+loop-i-init g c = nothing _ _ c.requires.text_in_bounds
 
 pub loop-i-preserved : goal.loop-i-preserved
 unfolding lines_of
-loop-i-preserved c = (omega arith, one_more c.args.r c.loop-i.i _ _ (to_z-of_z {w = w8} (record { sfits = c.line-arg-in-loop-i-4-1.given })) (to_z-of_z {w = w16} (record { sfits = c.line-arg-in-loop-i-5-1.given })) c.loop-i.invariant.1 c.line-end.ensures)
-
-pub shape_of-out : goal.shape_of-out
-shape_of-out c = c.loop-i.invariant.1.same
-
-pub returns : goal.returns
-returns c = let e : c.loop-i.i ≡ c.args.n = omega arith in meant (ap (lines_of c.args.r) e) c.loop-i.invariant.1
+loop-i-preserved g c =
+    let b = get_or c.args.r.now.blocks c.loop-i.i (pos 0) in
+    let x = get_or c.args.r.now.indexes c.loop-i.i (pos 0) in
+    let f : SFits w8 b = search rules in
+    let h : SFits w16 x = search rules in
+    meant (sym (ap (lines_of c.args.r.now) (add-one c.loop-i.i)))
+    (c.loop-i.invariant
+    then (c.number.ensures then c.number-in-loop-i.ensures then c.name.ensures
+    then meant (ap (λ z. signed_of z ++ (32 ∷ [])) (to_z-of_z (widened f) ∙ to_z-of_z f)) c.signed.ensures
+    then meant (ap (λ z. signed_of z ++ (32 ∷ [])) (to_z-of_z h)) c.signed-in-loop-i.ensures
+    then c.number-in-loop-i-2.ensures))

@@ -1,11 +1,7 @@
--- The records before i stand in the buffer.
-use Prim.Native.Nat.{◌-◌, ◌≤◌}
-use Rattle.print.specs.Text.{Added}
+-- The records before i stand in the text.
+use Rattle.print.specs.Text.{Adds}
 use Rattle.listing.specs.Listing.{lines_of}
 use Rattle.listing.proofs.lines.Given as goal
 
 abbrev pub invariant-loop-i : goal.invariant-loop-i
-invariant-loop-i l = (l.i ≤ l.n) × Added l.initial.out l.at (lines_of l.r l.i) l.out l.end
-
-abbrev pub decreases-loop-i : goal.decreases-loop-i
-decreases-loop-i l = l.n - l.i
+invariant-loop-i g l = Adds g.row.N l.initial.out (lines_of l.r l.i) l.out

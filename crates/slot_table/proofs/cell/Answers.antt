@@ -1,13 +1,13 @@
 -- By what the cell shows.
-use mathlib.Core.Path.{ap}
-use Rattle.print.proofs.Adding.{meant}
+use Rattle.std.proofs.Common.{ap}
+use Rattle.print.proofs.Adds.{meant}
 use Rattle.slot_table.specs.SlotTable.{tenths_of, cell_of}
 use Rattle.slot_table.proofs.cell.Goals as goal
 
-pub returns-in-Bits : goal.returns-in-Bits
+pub returns-in-Some : goal.returns-in-Some
 unfolding cell_of
-returns-in-Bits c = rw c.in-Bits.is c.right.ensures
+returns-in-Some g c = rw c.in-Some.is (meant (ap tenths_of c.share.ensures) c.tenths.ensures)
 
-pub returns-in-Share : goal.returns-in-Share
+pub returns-in-None : goal.returns-in-None
 unfolding cell_of
-returns-in-Share c = rw c.in-Share.is (meant (ap tenths_of c.share.ensures) c.tenths.ensures)
+returns-in-None g c = rw c.in-None.is c.right.ensures

@@ -1,8 +1,8 @@
 -- One after the other.
 use Rattle.names.specs.Spelling.{bytes}
-use Rattle.print.proofs.Adding.{◌then◌}
+use Rattle.print.proofs.Adds.{◌then◌}
 use Rattle.slot_table.proofs.tenths.Goals as goal
 
 pub returns : goal.returns
 unfolding bytes
-returns c = c.right-at.ensures then c.put-at.ensures then c.decimal.ensures
+returns g c = c.right.ensures then c.put.ensures then c.decimal.ensures

@@ -14,5 +14,5 @@ overflow_cast-result c = unsigned c.ranges.n c.if-n-lt0.false
 pub overflow_add-result : goal.overflow_add-result
 overflow_add-result c = subst (λ z. Fits w16 (nat_abs z + 1)) (sym (to_z-of_z c.ranges.n)) (fits_more c.ranges.n)
 
-pub returns : goal.returns
-returns c = ap (λ z. nat_abs z + 1) (to_z-of_z c.ranges.n) ∙ above c.args.n (ap (λ z. lt_z z (pos 0)) (sym (to_z-of_z c.ranges.n)) ∙ c.if-n-lt0.false)
+pub returns-else-n-lt0 : goal.returns-else-n-lt0
+returns-else-n-lt0 c = ap (λ z. nat_abs z + 1) (to_z-of_z c.ranges.n) ∙ above c.args.n (ap (λ z. lt_z z (pos 0)) (sym (to_z-of_z c.ranges.n)) ∙ c.if-n-lt0.false)

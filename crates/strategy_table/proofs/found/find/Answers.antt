@@ -1,22 +1,27 @@
-use mathlib.Core.Path.{◌∙◌, ap}
-use native.Mathlib.Omega.{arith}
-use mir.Syntax.{w16}
-use mir.Val.{to_z, of_z}
+use Rattle.std.proofs.Common.{◌<◌, ◌∙◌, min, sym, ap, arith, to_z-of_z}
 use Rattle.strategy_table.specs.Strategies.{found}
-use Rattle.strategy_table.proofs.Laws.{here, further, ended, whole}
+use Rattle.strategy_table.proofs.Laws.{here, passed, further, ended}
 use Rattle.strategy_table.proofs.found.find.Goals as goal
+use Rattle.strategy_table.proofs.found.find.Goals.{then-is_of+else-left-eq0, else-is_of}
 
-pub loop-i-init : goal.loop-i-init
-loop-i-init c = (omega arith, ap (λ f. found c.args.r c.args.name (to_z w16 (of_z w16 c.args.index)) f 0 c.args.after) (omega arith))
-
-pub returns-then-last : goal.returns-then-last
-returns-then-last c = here _ _ _ _ _ _ _ c.loop-i-test.true c.loop-i.invariant.1 c.is_of-arg-in-loop-i-1.given c.is_of-hit.ensures c.last.ensures c.if-last.true ∙ whole _ _ _ c.ranges.index c.least-n.ensures
-
-pub loop-i-smaller : goal.loop-i-smaller
-loop-i-smaller c = omega arith
+pub returns-then-left-eq0 : goal.returns-then-left-eq0
+returns-then-left-eq0 c =
+    let n = min c.args.count 2048 in
+    let h : c.loop-i.i < n = omega arith in
+    here c.args.r.now c.args.name _ n c.loop-i.i c.loop-i.left _ h c.loop-i.invariant (sym c.is_of.ensures ∙ c.if-is_of.true) (omega arith)
+    ∙ ap (λ z. found c.args.r.now c.args.name z n 0 c.args.after) (to_z-of_z c.ranges.index)
 
 pub loop-i-preserved : goal.loop-i-preserved
-loop-i-preserved c = (omega arith, further _ _ _ _ _ _ _ c.loop-i-test.true c.loop-i.invariant.1 c.is_of-arg-in-loop-i-1.given c.is_of-hit.ensures c.last.ensures c.if-last.false c.passed-left.ensures)
+loop-i-preserved c =
+    let n = min c.args.count 2048 in
+    let h : c.loop-i.i < n = omega arith in
+    elim c.if-is_of.branch [
+      | then-is_of+else-left-eq0 w ↦ rw w.left-is (passed c.args.r.now c.args.name _ n c.loop-i.i c.loop-i.left _ h c.loop-i.invariant (sym c.is_of.ensures ∙ w.if-is_of.true) w.if-left-eq0.false)
+      | else-is_of w ↦ rw w.left-is (further c.args.r.now c.args.name _ n c.loop-i.i c.loop-i.left _ h c.loop-i.invariant (sym c.is_of.ensures ∙ w.if-is_of.false))
+    ]
 
 pub returns : goal.returns
-returns c = ended _ _ _ _ _ _ _ c.loop-i-test.false c.loop-i.invariant.1 ∙ whole _ _ _ c.ranges.index c.least-n.ensures
+returns c =
+    let n = min c.args.count 2048 in
+    ended c.args.r.now c.args.name _ n c.loop-i.i c.loop-i.left _ (omega arith) c.loop-i.invariant
+    ∙ ap (λ z. found c.args.r.now c.args.name z n 0 c.args.after) (to_z-of_z c.ranges.index)
