@@ -19,7 +19,7 @@ use Rattle.reading.specs.Run.{Field, field_of, Result, accepted, refused, Outcom
 use Rattle.reading.specs.Room.{Room, size, pushed, Out, got, record_in, skimmed_by, exec}
 use Rattle.reading.proofs.Rooms.{go_on, ◌then◌, exec-bind}
 use Rattle.syntax.specs.Cursors.{Progress}
-use Rattle.syntax.specs.Records.{outcome} 
+use Rattle.syntax.specs.Records.{outcome}
 use Rattle.syntax.specs.Records as R
 use Rattle.syntax.specs.declared.Cursor.{Cursor}
 use Rattle.syntax.specs.declared.Stopped.{Stopped}

@@ -10,8 +10,7 @@ use Rattle.exponents.proofs.set.read_exponents.Goals as goal
 
 pub loop-init : goal.loop-init
 loop-init c =
-    let e : c.groups-left.result - 0 ≡ c.groups-left.result = omega arith in
-    (
+    let e : c.groups-left.result - 0 ≡ c.groups-left.result = omega arith in (
       rw e (standing-first _ _ _ _ _ _ _ _ _ _ _ _ _ _ c.requires.held c.requires.small c.begin.ensures c.start_of-prev.ensures (omega arith) (omega arith)),
       same_refl _,
     )
@@ -36,8 +35,7 @@ overflow_cast-c c = omega (arith, (decode-low _ _ _ _ _ (sym c.decode.ensures �
 
 pub loop-preserved : goal.loop-preserved
 loop-preserved c =
-    let e : c.groups-left.result - (c.loop.counter + 1) ≡ c.groups-left.result - c.loop.counter - 1 = omega arith in
-    (
+    let e : c.groups-left.result - (c.loop.counter + 1) ≡ c.groups-left.result - c.loop.counter - 1 = omega arith in (
       rw e (standing-moved c.loop.invariant.0 (omega arith) (ltb-false c.args.limit.0 (c.loop.here.at.0 + 7) (sym c.past.ensures.0 ∙ c.if-past.false)) _ c.bits_at-value.ensures _ _ c.keep.ensures.kept _ c.in_ok-here.was _ _ _ (sym c.decode.ensures ∙ c.in-Ok.is) _ c.lay.ensures (omega (arith, c.group_size-step.ensures.0, c.group_size-step.ensures.2)) _ (ap (λ k. 3 * k) c.group_size-step.ensures.0)),
       same-trans c.loop.invariant.1 c.keep.ensures.same,
     )
