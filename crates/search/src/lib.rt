@@ -76,6 +76,7 @@ pub fn find(
     let whole = positions(start, capture.len().saturating_sub(5), most);
     let mut tried: usize = 0;
     let mut count: usize = 0;
+    // Stays: a `while`, since a turn goes on behind the position at which it read, and a range gives each number.
     while tried < whole {
         let from = start + tried;
         let last = start + (whole - 1);
