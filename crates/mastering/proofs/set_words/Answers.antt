@@ -21,4 +21,4 @@ pub returns-in-Err : goal.returns-in-Err
 returns-in-Err c =
     let e = c.in-Err.ensures in
     words-set _ _ _ _ _ _ _ _ c.parse-read.ensures (ap accepted_by c.in-Accepted.is) _ _ _ refl e.1 e.2
-    (refused-is _ _ _ c.refusal.ensures _ e.0.0 (λ z. omega (arith, e.0.1, z)))
+    (refused-is _ c.in-Err.why _ c.refusal.ensures _ e.0.0 (λ z. omega (arith, e.0.1, z)))
