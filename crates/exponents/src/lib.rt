@@ -126,7 +126,8 @@ fn lay_in<const N: usize>(exps: &mut [u8; 1792], slot: u8, bin: u32, a: u8, b: u
     spread_in::<N>(exps, slot, bin + 2 * N as u32, c);
 }
 
-// A group some of whose bins the slot may not have.
+// A group some of whose bins the slot may not have: out of the loop over groups, whose registers it would take.
+#[inline(never)]
 fn lay_some(exps: &mut [u8; 1792], slot: u8, size: u32, bin: u32, a: u8, b: u8, c: u8)
     requires { (length exps.old ≡ 1792) × (size ≤ 4) × (bin + 12 < 4294967296) }
     ensures { exps.new ≡ laid_of exps.old slot size bin a b c }

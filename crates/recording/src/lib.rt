@@ -32,7 +32,8 @@ pub fn label_of(w: u64, cells: &[u16; 1024]) -> Label
     }
 }
 
-// What is found is recorded and stored.
+// What is found is recorded and stored: compiled into the walk, which calls it for each record.
+#[inline(always)]
 pub fn keep(
     room: &mut RecordRoom<'_>,
     cells: &mut [u16; 1024],
