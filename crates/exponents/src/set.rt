@@ -59,8 +59,13 @@ pub fn read_exponents(
             return Err(here.stop(Refusal::Truncated));
         }
         let value = bits_at(src, here.at, 7);
-        let next = BitPlace(here.at.0 + 7);
-        here = room.keep(here, set.label, 7, value, next)?;
+        let Some(count) = room.record(here.count, set.label, here.at, 7, value) else {
+            return Err(here.stop(Refusal::NoRoom));
+        };
+        here = Cursor {
+            at: BitPlace(here.at.0 + 7),
+            count,
+        };
         let (a, b, c) = match decode(prev, value) {
             Ok(group) => group,
             Err(refusal) => return Err(here.stop(refusal)),

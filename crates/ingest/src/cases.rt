@@ -1,5 +1,5 @@
 // Slices on standard input, each after two bytes that say its length, the high byte first.
-ghost use Rattle.std.specs.Prelude.{◌≡◌, ◌+◌, ◌*◌, ◌≤◌, ◌<◌, IfOk, drop, replicate, take};
+ghost use Rattle.std.specs.Prelude.{◌≡◌, ◌+◌, ◌*◌, ◌≤◌, ◌<◌, IfOk, min, drop, replicate, take};
 
 use std::io::Result;
 
@@ -39,10 +39,18 @@ impl Slice {
     }
 }
 
-// The next slice, after its length.
-pub fn input_slice(rt: &HostRuntime) -> Result<Slice> {
-    let size = input_pair(rt)?.min(LONGEST);
+// The next n bytes, but no more than the longest slice has.
+pub fn slice_of(rt: &HostRuntime, n: usize) -> Result<Slice>
+    ensures { IfOk result (λ s. s.size ≡ min n 4200) }
+{
+    let size = n.min(LONGEST);
     let mut buffer = [0u8; 4200];
     print::read_full(&mut rt.stdin(), &mut buffer[..size])?;
     Ok(Slice { buffer, size })
+}
+
+// The next slice, after its length.
+pub fn input_slice(rt: &HostRuntime) -> Result<Slice> {
+    let n = input_pair(rt)?;
+    slice_of(rt, n)
 }

@@ -1,20 +1,16 @@
 -- What a row of input reads: looked at, recorded, stored. Assumes nothing.
 use Prim.Native.Nat.{ℕ, suc, ◌+◌, ◌-◌, ◌%◌, ◌≤◌, ◌<◌}
 use mathlib.Core.Bool.{Bool, true, false, cond}
-use mathlib.Core.Path.{◌≡◌, refl, sym, ap, ap₂, ◌∙◌}
+use mathlib.Core.Path.{◌≡◌, refl, sym, ap, ◌∙◌}
 use mathlib.Core.List.{List, ◌∷◌}
 use native.Mathlib.Omega.{arith}
-use native.Mathlib.Decide.{dec_le, ℕ_discrete}
+use native.Mathlib.Decide.{dec_le}
 use native.Mathlib.Numerals.{add-one}
-use lib.Dec.{leb, ltb, eqb}
-use lib.IntN.{ℤ, pos, negsuc}
-use mir.Val.{SFits, to_z, of_z}
-use mir.Syntax.{w8, w16}
-use mir.Facts.{to_z-of_z}
-use borrow.Author.Tests.{le-leb, lt-leb, lt-ltb, le-ltb, ltb-false, eq-eqb, ne_eqb}
+use lib.Dec.{leb, ltb}
+use borrow.Author.Tests.{le-leb, lt-leb, lt-ltb, le-ltb, ltb-false}
 use Rattle.std.specs.Prelude.{Result as Ended, Ok, Err}
 use Rattle.bits.specs.Bits.{bits_at}
-use Rattle.reading.specs.Tree.{Part, Tree, done, ◌>>=◌}
+use Rattle.reading.specs.Tree.{Tree, done, ◌>>=◌}
 use Rattle.reading.specs.Run.{Field, field_of, Result, accepted, refused, Outcome, skim}
 use Rattle.reading.specs.Room.{Room, size, pushed, Out, got, record_in, skimmed_by, exec}
 use Rattle.reading.proofs.Rooms.{go_on, ◌then◌, exec-bind}
@@ -32,14 +28,14 @@ use Rattle.refusals.specs.declared.Refused.{Refused}
 use Rattle.plan.specs.declared.Taken.{Taken}
 use Rattle.kept.specs.Kept.{stale_of}
 use Rattle.allocation.proofs.MemoLaws.{memo-stale}
-use Rattle.cells.specs.Cells.{State, state, cell_of, place_of, sum_of, stored, stored_all, puts_in, signed, part_of}
-use Rattle.cells.specs.Names.{ABSEXP, BLOCK}
+use Rattle.cells.specs.Cells.{State, state, cell_of, place_of, sum_of, stored, stored_all, puts_in, part_of}
+use Rattle.cells.specs.Names.{ABSEXP}
 use Rattle.derivations.specs.Sets.{strategy_of, start_of, end_of, exponents_of}
 use Rattle.derivations.specs.Mantissas.{mantissas_in}
 use Rattle.rows.specs.Rows.{name_in, width_in, index_in, keep_in, region_in, slot_in}
 use Rattle.rows.specs.Steps.{input_in, set_in}
-use Rattle.inputs.specs.Reads.{Right, short, bits_of, passed_of, passed_by, stopped_by, found_by, Looks, Sees, Takes, Gathers, set_by}
-use Rattle.recording.specs.Recorded.{label_in, looked, recorded, Keeps}
+use Rattle.inputs.specs.Reads.{Right, short, bits_of, passed_of, passed_by, Looks, Sees, Takes, Gathers, set_by}
+use Rattle.recording.specs.Recorded.{label_in, looked, recorded, found_by, Keeps}
 use Rattle.syntax.specs.declared.Label.{Label}
 use Rattle.recording.specs.declared.Look.{Look}
 use Rattle.exponents.specs.declared.set.Set.{Set}
@@ -88,14 +84,10 @@ module _ (s : List ℕ) (l w : ℕ) (st : State) (p : ℕ) (x : Ended Look Refus
     is = λ q m. rw (le-ltb _ _ h, lt-ltb _ _ n, ex, ed) (test (p + cell_of st.cells (region_in w)) l _ _ ∙ found (ltb l (p + cell_of st.cells (region_in w))) (cell_of st.cells (region_in w)) 0 q m);
   }
 
--- what is found and stored is what is read, and a refusal stands
-pub takes : {s : List ℕ} {l w : ℕ} {cells : List ℕ} {p q : ℕ} {m : Room} {y : Ended Look Refused} (x : Look) → y ≡ Ok x → {r : Progress} {cells' : List ℕ} {m' : Room}
-    → Sees s l w cells p y → Keeps w x cells p q m r cells' m' → Takes s l w cells p q m r cells' m'
-takes {w} {cells} {p} {q} {m} x e h k = record { is = λ b. k.is b ∙ sym ((h.is b).is q m ∙ ap (λ z. found_by w z (state cells b) p q m) e) }
-
-pub misses : {s : List ℕ} {l w : ℕ} {cells : List ℕ} {p q : ℕ} {m : Room} {y : Ended Look Refused} (e : Refused) → y ≡ Err e → (v : Stopped) → v ≡ stopped_by e q
-    → Sees s l w cells p y → Takes s l w cells p q m (Err v) cells m
-misses {w} {cells} {p} {q} {m} e i v j h = record { is = λ b. rw j (sym ((h.is b).is q m ∙ ap (λ z. found_by w z (state cells b) p q m) i)) }
+-- what is found, and what was done with it, is what is read
+pub takes : {s : List ℕ} {l w : ℕ} {cells : List ℕ} {p q : ℕ} {m : Room} {x : Ended Look Refused} {r : Progress} {cells' : List ℕ} {m' : Room}
+    → Sees s l w cells p x → Keeps w x cells p q m r cells' m' → Takes s l w cells p q m r cells' m'
+takes {q = q} {m = m} h k = record { is = λ b. k.is b ∙ sym ((h.is b).is q m) }
 
 -- a state that changes after what was read
 abbrev changed : (State → State) → Result State → Result State
@@ -142,15 +134,15 @@ module _ (s : List ℕ) (l w : ℕ) (st : State) (p q : ℕ) (m : Room) where
 -- the mantissas, and a set of exponents
 module _ (s : List ℕ) (l w : ℕ) (exps baps cells mem : List ℕ) (right : Right mem (bins exps baps)) (p q : ℕ) (m : Room) (lo : 4 ≤ w % 16) where
   -- a walk that is refused
-  pub gathers-missed : w % 16 < 8 → {y : Ended Taken Refused} (e : Refused) → y ≡ Err e → taken y ≡ skim (mantissas_in (state cells (bins exps baps))) s p l → (v : Stopped) → v ≡ stopped_by e q
-      → Gathers s l w (state cells (bins exps baps)) p q m (Err v) (state cells (bins exps baps)) m mem
-  gathers-missed hi e i h v j =
+  pub gathers-missed : w % 16 < 8 → {y : Ended Taken Refused} (e : Refused) → y ≡ Err e → taken y ≡ skim (mantissas_in (state cells (bins exps baps))) s p l
+      → (r : Progress) (cells' : List ℕ) (m' : Room) → Keeps w (Err e) cells p q m r cells' m' → Gathers s l w (state cells (bins exps baps)) p q m r (state cells' (bins exps baps)) m' mem
+  gathers-missed hi e i h r cells' m' kp =
       let st = state cells (bins exps baps) in
-      record { is = rw j (missed s l w st p q m e ∙ walked s l w st p q m lo hi _ (sym (ap taken i) ∙ h)); right = right }
+      record { is = kp.is (bins exps baps) ∙ (missed s l w st p q m e ∙ walked s l w st p q m lo hi _ (sym (ap taken i) ∙ h)); right = right }
 
   -- a walk that is told, whose record is kept
   module _ (hi : w % 16 < 8) {y : Ended Taken Refused} (t : Taken) (i : y ≡ Ok t) (h : taken y ≡ skim (mantissas_in (state cells (bins exps baps))) s p l)
-      (x : Look) (ex : x ≡ passed_by t p) (r : Progress) (cells' : List ℕ) (m' : Room) (kp : Keeps w x cells p q m r cells' m') where
+      (x : Look) (ex : x ≡ passed_by t p) (r : Progress) (cells' : List ℕ) (m' : Room) (kp : Keeps w (Ok x) cells p q m r cells' m') where
     behind-is : outcome r (state (puts_in cells' (suc (place_of (keep_in w) cells)) t.bits) (bins exps baps)) m' ≡ exec s l (cond (ltb (w % 16) 8) (input_in w (state cells (bins exps baps))) (set_in w (state cells (bins exps baps)))) p q m
     behind-is =
         let st = state cells (bins exps baps) in

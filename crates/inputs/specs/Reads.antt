@@ -1,12 +1,9 @@
 -- What the functions ask that read and record, and what they tell.
 use Rattle.std.specs.Prelude.{ℕ, ◌+◌, ◌-◌, ◌*◌, ◌%◌, ◌≤◌, ◌<◌, cond, List, ◌≡◌, ltb, length, Result, Ok, Err}
 use Rattle.bits.specs.Bits.{bits_at}
-use Rattle.reading.specs.Room.{Room, Out, got, exec}
+use Rattle.reading.specs.Room.{Room, exec}
 use Rattle.syntax.specs.Records.{outcome}
 use Rattle.syntax.specs.Cursors.{Progress}
-use Rattle.syntax.specs.declared.Stopped.{Stopped}
-use Rattle.reading.specs.Run.{refused}
-use Rattle.refusals.specs.Refusals.{number_of}
 use Rattle.slots.specs.Held.{Bins, Held}
 use Rattle.refusals.specs.declared.Refusal.TheVariants.{Truncated}
 use Rattle.refusals.specs.declared.Refused.{Refused}
@@ -17,7 +14,7 @@ use Rattle.cells.specs.Names.{ABSEXP}
 use Rattle.derivations.specs.Sets.{strategy_of, start_of, end_of}
 use Rattle.rows.specs.Rows.{slot_in, width_in}
 use Rattle.rows.specs.Steps.{input_in, set_in}
-use Rattle.recording.specs.Recorded.{label_in, looked, recorded}
+use Rattle.recording.specs.Recorded.{label_in, looked, found_by}
 use Rattle.recording.specs.declared.Look.{Look}
 use Rattle.exponents.specs.declared.set.Set.{Set}
 
@@ -40,15 +37,6 @@ passed_of l p w = cond (ltb l (p + w)) (Err (short p)) (Ok (looked (p + w) w 0 0
 -- the mantissas of the block, from the place p on: a span, and the first number that their walk tells
 abbrev pub passed_by : Taken → ℕ → Look
 passed_by t p = looked t.place.0 (t.place.0 - p) 0 t.tags
-
--- a refusal, after so many records
-abbrev pub stopped_by : Refused → ℕ → Stopped
-stopped_by e q = record { refusal = e.refusal; at = e.place; count = q }
-
--- what is found is recorded and stored, and a refusal stands
-abbrev pub found_by : ℕ → Result Look Refused → State → ℕ → ℕ → Room → Out State
-found_by w (Ok x) st p q m = recorded w x st p q m
-found_by w (Err e) st p q m = got (refused (number_of e.refusal)) e.place.0 q m
 
 -- a row of input finds this at the place p; an element or a span does, whatever the bins are
 pub record Looks (s : List ℕ) (l w : ℕ) (st : State) (p : ℕ) (x : Result Look Refused) : Type 0 where

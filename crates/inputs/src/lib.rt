@@ -5,7 +5,7 @@ ghost use Rattle.std.specs.Prelude.{◌≡◌, ◌*◌, ◌%◌, ◌≤◌, ◌<
 ghost use Rattle.syntax.specs.Rooms.{room_of, SameSlices};
 ghost use Rattle.slots.specs.Held.{bins};
 ghost use Rattle.cells.specs.Cells.{state, puts_in};
-ghost use Rattle.inputs.specs.Reads.{Wide, bits_of, passed_of, stopped_by, Sees, Takes, Opens, Gathers, set_by};
+ghost use Rattle.inputs.specs.Reads.{Wide, bits_of, passed_of, Sees, Takes, Opens, Gathers, set_by};
 
 use bits::{BitPlace, bits_at, past};
 use cells::numbers::ABSEXP;
@@ -57,17 +57,6 @@ fn span(at: BitPlace, limit: BitPlace, width: u16) -> Result<Look, Refused>
     })
 }
 
-// A refusal, after so many records.
-fn stopped(refused: Refused, count: usize) -> Stopped
-    ensures { result ≡ stopped_by refused count }
-{
-    Stopped {
-        refusal: refused.refusal,
-        at: refused.place,
-        count,
-    }
-}
-
 // What an element or a span finds at a place.
 fn seek(
     src: &[u8],
@@ -102,10 +91,8 @@ pub fn take(
     ensures taken { Takes src.now limit.0 w cells.old cur.at.0 cur.count (room_of room.old) result cells.new (room_of room.new) }
     ensures same { SameSlices room.old room.new }
 {
-    match seek(src, cells, cur.at, limit, w) {
-        Ok(found) => keep(room, cells, cur, w, found),
-        Err(refused) => Err(stopped(refused, cur.count)),
-    }
+    let found = seek(src, cells, cur.at, limit, w);
+    keep(room, cells, cur, w, found)
 }
 
 // The set of exponents of a row.
@@ -157,7 +144,7 @@ pub fn gather(
     }
     let taken = match mantissas_in(src, cells, baps, memo, cur.at, limit) {
         Ok(taken) => taken,
-        Err(refused) => return Err(stopped(refused, cur.count)),
+        Err(refused) => return keep(room, cells, cur, w, Err(refused)),
     };
     let found = Look {
         place: taken.place,
@@ -166,7 +153,7 @@ pub fn gather(
         stored: u32::from(taken.tags),
     };
     let k = keep_of(w, cells);
-    let next = keep(room, cells, cur, w, found)?;
+    let next = keep(room, cells, cur, w, Ok(found))?;
     tell(cells, k + 1, taken.bits);
     Ok(next)
 }

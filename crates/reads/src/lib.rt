@@ -35,9 +35,14 @@ pub fn read(
         return Err(cur.stop(Refusal::Truncated));
     }
     let value = bits::get(src, cur.at, width);
-    let next = BitPlace(cur.at.0 + width);
-    let cursor = room.keep(cur, label, width, value, next)?;
-    Ok(Taken { cursor, value })
+    let Some(count) = room.record(cur.count, label, cur.at, width, value) else {
+        return Err(cur.stop(Refusal::NoRoom));
+    };
+    let at = BitPlace(cur.at.0 + width);
+    Ok(Taken {
+        cursor: Cursor { at, count },
+        value,
+    })
 }
 
 // `width` bits as one record, not looked at.

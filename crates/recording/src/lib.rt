@@ -8,6 +8,7 @@ ghost use Rattle.recording.specs.Recorded.{label_in, Keeps};
 use bits::BitPlace;
 use cells::numbers::BLOCK;
 use cells::{cell_of, put};
+use refusals::{Refusal, Refused};
 use rows::fields::{block_part, index_of, index_part, keep_of, name_of};
 use syntax::room::RecordRoom;
 use syntax::{Cursor, Label, Stopped};
@@ -32,21 +33,36 @@ pub fn label_of(w: u64, cells: &[u16; 1024]) -> Label
     }
 }
 
-// What is found is recorded and stored: compiled into the walk, which calls it for each record.
+// What is found is recorded and stored, and a refusal stands: compiled into the walk, which calls it for each record.
 #[inline(always)]
 pub fn keep(
     room: &mut RecordRoom<'_>,
     cells: &mut [u16; 1024],
     cur: Cursor,
     w: u64,
-    found: Look,
+    found: Result<Look, Refused>,
 ) -> Result<Cursor, Stopped>
     ensures kept { Keeps w found cells.old cur.at.0 cur.count (room_of room.old) result cells.new (room_of room.new) }
     ensures same { SameSlices room.old room.new }
 {
+    let look = match found {
+        Ok(look) => look,
+        Err(refused) => {
+            return Err(Stopped {
+                refusal: refused.refusal,
+                at: refused.place,
+                count: cur.count,
+            });
+        }
+    };
     let label = label_of(w, cells);
-    let next = room.keep(cur, label, found.width, found.value, found.place)?;
+    let Some(next) = room.record(cur.count, label, cur.at, look.width, look.value) else {
+        return Err(cur.stop(Refusal::NoRoom));
+    };
     let k = keep_of(w, cells);
-    put(cells, k, found.stored);
-    Ok(next)
+    put(cells, k, look.stored);
+    Ok(Cursor {
+        at: look.place,
+        count: next,
+    })
 }

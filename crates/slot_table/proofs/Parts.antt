@@ -1,6 +1,6 @@
 -- Laws of the table's parts. Assumes nothing.
 use Rattle.bits.specs.declared.ByteCount.{ByteCount}
-use Rattle.std.proofs.Common.{◌≡◌, ◌<◌, ◌+◌, ◌∙◌, ℕ, List, [], ◌∷◌, ◌++◌, min, refl, ap, get_or, length, take, drop, sym, length-drop, length-take-le, get_or-drop, get_or-take, arith}
+use Rattle.std.proofs.Common.{◌≡◌, ◌<◌, ◌≤◌, ◌+◌, ◌*◌, ◌∙◌, ℕ, List, [], ◌∷◌, ◌++◌, min, refl, ap, get_or, length, take, drop, sym, length-drop, length-take-le, get_or-drop, get_or-take, add-one, arith}
 use Rattle.names.specs.Spelling.{bytes}
 use Rattle.answer.specs.Answer.{bits_in}
 use Rattle.sideinfo.specs.Steps.{sum_of}
@@ -20,6 +20,16 @@ as_sums blocks channels frame e = rw e refl
 pub as-table : (f : Frame) {n blocks : ℕ} → n ≡ channels_of f.acmod → blocks ≡ min f.numblks 6
     → heading_of f.acmod ++ (bytes "    sum" ++ (10 ∷ [])) ++ rows_of f.slot_bits n blocks ++ sums_of f.slot_bits n f.bytes ≡ table_of f
 as-table f e d = rw (e, d) refl
+
+-- the bits of a slot in one block more, whose number is the next, and how many they are at most
+pub one_more : (blocks : List SlotBits) (slot sum i : ℕ) → sum ≡ sum_of (λ b. bits_in blocks b slot) i → (k : ℕ) → k ≡ i → sum + bits_in blocks k slot ≡ sum_of (λ b. bits_in blocks b slot) (i + 1)
+unfolding sum_of
+one_more blocks slot sum i e k h =
+    ap (λ n. n + bits_in blocks k slot) e ∙ ap (λ j. sum_of (λ b. bits_in blocks b slot) i + bits_in blocks j slot) h
+    ∙ sym (ap (sum_of (λ b. bits_in blocks b slot)) (add-one i))
+
+pub most_more : {sum x : ℕ} (i : ℕ) → sum ≤ 65535 * i → x ≤ 65535 → sum + x ≤ 65535 * (i + 1)
+most_more i h l = omega arith
 
 -- a list of one block
 one_bits : (blocks : List SlotBits) (b slot : ℕ) → b < length blocks → bits_of (take 1 (drop b blocks)) slot ≡ bits_in blocks b slot

@@ -18,8 +18,8 @@ fn slot_sum(blocks: &[SlotBits], slot: usize) -> u32
     ensures { (result ≡ bits_of blocks.now slot) × (result ≤ 393210) }
 {
     let mut sum = 0;
-    for block in blocks {
-        sum += block.bits[slot] as u32;
+    for block in 0..blocks.len() {
+        sum += blocks[block].bits[slot] as u32;
     }
     sum
 }

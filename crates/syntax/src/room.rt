@@ -20,8 +20,8 @@ pub struct RecordRoom<'a> {
 
 impl<'a> RecordRoom<'a> {
     ghost use Rattle.reading.specs.Run.{field_of};
-    ghost use Rattle.reading.specs.Room.{room, pushed};
-    ghost use Rattle.syntax.specs.Records.{part_of, outcome, keep_of};
+    ghost use Rattle.reading.specs.Room.{room};
+    ghost use Rattle.syntax.specs.Records.{part_of, outcome, recorded, record_of, keep_of};
     ghost use Rattle.syntax.specs.Rooms.{room_of, SameSlices, Lends};
 
     // The room that six slices give.
@@ -55,18 +55,28 @@ impl<'a> RecordRoom<'a> {
         }
     }
 
-    // Puts a record at the place `n`.
-    pub fn record(&mut self, n: usize, label: Label, first: BitPlace, width: u16, value: u32)
-        requires { n < self.old.most }
-        ensures pushed { room_of self.new ≡ pushed (room_of self.old) n (field_of (part_of label) first.0 width value) }
+    // Puts a record at the place `n`: how many records there are then, or none where there is no room.
+    pub fn record(
+        &mut self,
+        n: usize,
+        label: Label,
+        first: BitPlace,
+        width: u16,
+        value: u32,
+    ) -> Option<usize>
+        ensures recorded { recorded result (room_of self.new) ≡ record_of (room_of self.old) n (field_of (part_of label) first.0 width value) }
         ensures same { SameSlices self.old self.new }
     {
+        if self.most <= n {
+            return None;
+        }
         self.names[n] = label.name;
         self.blocks[n] = label.block;
         self.indexes[n] = label.index;
         self.firsts[n] = first.0;
         self.widths[n] = width;
         self.values[n] = value;
+        Some(n + 1)
     }
 
     // A record from the cursor's place on, after which the reading goes on at `next`.
@@ -81,13 +91,9 @@ impl<'a> RecordRoom<'a> {
         ensures kept { outcome result value (room_of self.new) ≡ keep_of (field_of (part_of label) cur.at.0 width value) next.0 cur.count (room_of self.old) }
         ensures same { SameSlices self.old self.new }
     {
-        if self.most <= cur.count {
-            return Err(cur.stop(Refusal::NoRoom));
+        match self.record(cur.count, label, cur.at, width, value) {
+            Some(count) => Ok(Cursor { at: next, count }),
+            None => Err(cur.stop(Refusal::NoRoom)),
         }
-        self.record(cur.count, label, cur.at, width, value);
-        Ok(Cursor {
-            at: next,
-            count: cur.count + 1,
-        })
     }
 }

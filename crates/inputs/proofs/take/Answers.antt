@@ -1,11 +1,8 @@
-use Rattle.inputs.proofs.Takes.{takes, misses}
+use Rattle.inputs.proofs.Takes.{takes}
 use Rattle.inputs.proofs.take.Goals as goal
 
-pub seek-requires : goal.seek-requires
-seek-requires c = (c.requires.0, c.requires.1)
+pub seek-found-requires : goal.seek-found-requires
+seek-found-requires c = (c.requires.0, c.requires.1)
 
-pub returns-in-Ok-clause-taken : goal.returns-in-Ok-clause-taken
-returns-in-Ok-clause-taken c = takes _ c.in-Ok.is c.seek.ensures c.keep.ensures.kept
-
-pub returns-in-Err-clause-taken : goal.returns-in-Err-clause-taken
-returns-in-Err-clause-taken c = misses _ c.in-Err.is _ c.stopped.ensures c.seek.ensures
+pub returns-clause-taken : goal.returns-clause-taken
+returns-clause-taken c = takes c.seek-found.ensures c.keep.ensures.kept

@@ -1,13 +1,11 @@
-use mathlib.Core.Path.{refl, ap}
-use native.Mathlib.Omega.{arith}
-use Rattle.syntax.proofs.Recording.{full, made}
-use Rattle.reading.specs.Room.{size}
+-- The reading goes on with the new count, or is refused at the record's first bit.
+use Rattle.reading.specs.Run.{field_of}
+use Rattle.syntax.specs.Records.{part_of}
+use Rattle.syntax.proofs.Recording.{keep-by}
 use Rattle.syntax.proofs.room.RecordRoom.keep.Goals as goal
 
-pub returns-then-self-cur-clause-kept : goal.returns-then-self-cur-clause-kept
-unfolding size
-returns-then-self-cur-clause-kept c = rw c.stop.ensures (full _ _ _ _ (omega arith))
+pub returns-in-Some-clause-kept : goal.returns-in-Some-clause-kept
+returns-in-Some-clause-kept c = keep-by _ _ (field_of (part_of c.args.label) c.args.cur.at.0 c.args.width c.args.value) _ _ _ c.in-Some.ensures.recorded
 
-pub returns-clause-kept : goal.returns-clause-kept
-unfolding size
-returns-clause-kept c = rw c.record.ensures.pushed (made _ _ _ _ (omega arith))
+pub returns-in-None-clause-kept : goal.returns-in-None-clause-kept
+returns-in-None-clause-kept c = rw c.stop.ensures (keep-by _ _ (field_of (part_of c.args.label) c.args.cur.at.0 c.args.width c.args.value) c.args.next.0 _ _ c.in-None.ensures.recorded)
