@@ -94,12 +94,12 @@ pub fn put(exps: &mut [u8; 1792], slot: u8, bin: u32, e: u8)
     }
 }
 
-// One exponent for `size` bins, of which the slot may not have all.
-fn spread(exps: &mut [u8; 1792], slot: u8, bin: u32, size: u32, e: u8)
-    requires { (length exps.old ≡ 1792) × (bin + size < 4294967296) }
-    ensures { exps.new ≡ spread_of exps.old slot bin size e }
+// One exponent for N bins, of which the slot may not have all.
+fn spread<const N: usize>(exps: &mut [u8; 1792], slot: u8, bin: u32, e: u8)
+    requires { (length exps.old ≡ 1792) × (bin + N < 4294967296) }
+    ensures { exps.new ≡ spread_of exps.old slot bin N e }
 {
-    for k in bin..bin + size {
+    for k in bin..bin + N as u32 {
         put(exps, slot, k, e);
     }
 }
@@ -126,15 +126,28 @@ fn lay_in<const N: usize>(exps: &mut [u8; 1792], slot: u8, bin: u32, a: u8, b: u
     spread_in::<N>(exps, slot, bin + 2 * N as u32, c);
 }
 
-// A group some of whose bins the slot may not have: out of the loop over groups, whose registers it would take.
-#[inline(never)]
-fn lay_some(exps: &mut [u8; 1792], slot: u8, size: u32, bin: u32, a: u8, b: u8, c: u8)
-    requires { (length exps.old ≡ 1792) × (size ≤ 4) × (bin + 12 < 4294967296) }
-    ensures { exps.new ≡ laid_of exps.old slot size bin a b c }
+// A group some of whose bins the slot may not have.
+fn lay_each<const N: usize>(exps: &mut [u8; 1792], slot: u8, bin: u32, a: u8, b: u8, c: u8)
+    requires { (length exps.old ≡ 1792) × (N ≤ 4) × (bin + 12 < 4294967296) }
+    ensures { exps.new ≡ laid_of exps.old slot N bin a b c }
 {
-    spread(exps, slot, bin, size, a);
-    spread(exps, slot, bin + size, size, b);
-    spread(exps, slot, bin + 2 * size, size, c);
+    spread::<N>(exps, slot, bin, a);
+    spread::<N>(exps, slot, bin + N as u32, b);
+    spread::<N>(exps, slot, bin + 2 * N as u32, c);
+}
+
+// The same by its strategy: out of the loop over groups, whose registers it would take.
+#[inline(never)]
+#[tactic(auto, using(std::proofs::lemmas::Bool::Decides::nat_tests), unfolding(crate::specs::Exponents::size_of))]
+fn lay_some(exps: &mut [u8; 1792], slot: u8, strategy: u8, bin: u32, a: u8, b: u8, c: u8)
+    requires { (length exps.old ≡ 1792) × (bin + 12 < 4294967296) }
+    ensures { exps.new ≡ laid_of exps.old slot (size_of strategy) bin a b c }
+{
+    match strategy {
+        3 => lay_each::<4>(exps, slot, bin, a, b, c),
+        2 => lay_each::<2>(exps, slot, bin, a, b, c),
+        _ => lay_each::<1>(exps, slot, bin, a, b, c),
+    }
 }
 
 // The three exponents of a group, each for as many bins as the strategy has it, from the bin `bin` on.
@@ -144,7 +157,7 @@ pub fn lay(exps: &mut [u8; 1792], slot: u8, strategy: u8, bin: u32, a: u8, b: u8
     ensures { exps.new ≡ laid_of exps.old slot (size_of strategy) bin a b c }
 {
     if 7 <= slot || 244 < bin {
-        lay_some(exps, slot, group_size(strategy), bin, a, b, c);
+        lay_some(exps, slot, strategy, bin, a, b, c);
         return;
     }
     match strategy {
